@@ -1,0 +1,124 @@
+-- `collect` puts a list in order and keeps every weighted sum; a list in order is determined by its weights. Assumes nothing.
+use Prim.Native.Nat.{ℕ, _+_, _*_, Ordering, Ordering·lt, Ordering·eq, Ordering·gt}
+use mathlib.Core.Path.{_≡_, refl, sym, ap, ap₂, _∙_}
+use mathlib.Core.Bool.{cond, _&&_}
+use mathlib.Core.List.{List, [], _∷_}
+use native.Mathlib.Nat.{add-mul}
+use native.Mathlib.Omega.{arith}
+use lib.Dec.{leb, eqb}
+use borrow.Author.Tests.{eq-eqb}
+use Rattle.theory.specs.Sums.{sumBy, Every}
+use Rattle.theory.specs.Focal.{Focal, Weighty}
+use Rattle.theory.specs.Choices.{belief, plausibility}
+use Rattle.theory.specs.Lists.{order, Before, InOrder, merged, insertAt, insert, collect}
+use Rattle.theory.proofs.Sums.{sum-ext, cond-mul}
+use Rattle.theory.proofs.Order.{Placed, placed, before-trans, before-apart}
+use Rattle.theory.proofs.Every.{every-map}
+
+-- A weighted sum: each weight times a number that goes by the interval.
+abbrev pub weigh : (ℕ → ℕ → ℕ) → List Focal → ℕ
+weigh k = sumBy (λ f. f .weight * k (f .low) (f .high))
+
+pub weigh-insert : (k : ℕ → ℕ → ℕ) (f : Focal) (gs : List Focal) → weigh k (insert f gs) ≡ f .weight * k (f .low) (f .high) + weigh k gs
+weigh-insert k f [] = refl
+weigh-insert k f (g ∷ gs) = go (order f g) (placed f g) (weigh-insert k f gs)
+  where
+    go : (o : Ordering) → Placed f g o → weigh k (insert f gs) ≡ f .weight * k (f .low) (f .high) + weigh k gs
+        → weigh k (insertAt o f g gs (insert f gs)) ≡ f .weight * k (f .low) (f .high) + weigh k (g ∷ gs)
+    go Ordering·lt p r = refl
+    go Ordering·eq (Placed.same p q) r =
+        rw (p, q) (omega (arith, add-mul (f .weight) (g .weight) (k (g .low) (g .high))))
+    go Ordering·gt p r = omega arith
+
+-- Every weighted sum is kept: belief, plausibility, the weight at an interval, and the total with them.
+pub weigh-collect : (k : ℕ → ℕ → ℕ) (fs : List Focal) → weigh k (collect fs) ≡ weigh k fs
+weigh-collect k [] = refl
+weigh-collect k (f ∷ fs) = weigh-insert k f (collect fs) ∙ ap (f .weight * k (f .low) (f .high) +_) (weigh-collect k fs)
+
+pub every-insert : (P : Focal → Type 0) → ((f g : Focal) → P f → P g → P (merged f g))
+    → (f : Focal) → P f → {gs : List Focal} → Every P gs → Every P (insert f gs)
+every-insert P m f h Every.none = Every.more h Every.none
+every-insert P m f h (Every.more {x = g} {xs = gs} p r) = go (order f g) (every-insert P m f h r)
+  where
+    go : (o : Ordering) → Every P (insert f gs) → Every P (insertAt o f g gs (insert f gs))
+    go Ordering·lt s = Every.more h (Every.more p r)
+    go Ordering·eq s = Every.more (m f g h p) r
+    go Ordering·gt s = Every.more p s
+
+pub before-all : (f g : Focal) → Before f g → {gs : List Focal} → Every (Before g) gs → Every (Before f) (g ∷ gs)
+before-all f g p b = Every.more p (every-map (λ h q. before-trans f g h p q) b)
+
+order-insert : (f : Focal) {gs : List Focal} → InOrder gs → InOrder (insert f gs)
+order-insert f InOrder.none = InOrder.more Every.none InOrder.none
+order-insert f (InOrder.more {f = g} {fs = gs} b r) = go (order f g) (placed f g) (order-insert f r)
+  where
+    go : (o : Ordering) → Placed f g o → InOrder (insert f gs) → InOrder (insertAt o f g gs (insert f gs))
+    go Ordering·lt (Placed.before p) s = InOrder.more (before-all f g p b) (InOrder.more b r)
+    go Ordering·eq p s = InOrder.more b r
+    go Ordering·gt (Placed.after p) s = InOrder.more (every-insert (Before g) (λ h j q t. t) f p b) s
+
+pub order-collect : (fs : List Focal) → InOrder (collect fs)
+order-collect [] = InOrder.none
+order-collect (f ∷ fs) = order-insert f (order-collect fs)
+
+pub weighty-collect : {fs : List Focal} → Every Weighty fs → Every Weighty (collect fs)
+weighty-collect Every.none = Every.none
+weighty-collect (Every.more {x = f} p r) = every-insert Weighty (λ g h q t. omega arith) f p (weighty-collect r)
+
+-- The weight that a list has at one interval.
+abbrev pub weightAt : ℕ → ℕ → List Focal → ℕ
+weightAt a b = sumBy (λ f. cond (eqb a (f .low) && eqb b (f .high)) (f .weight) 0)
+
+-- the weight at an interval as a weighted sum
+abbrev pub is : ℕ → ℕ → ℕ → ℕ → ℕ
+is a b c d = cond (eqb a c && eqb b d) 1 0
+
+pub weightAt-weigh : (a b : ℕ) (fs : List Focal) → weightAt a b fs ≡ weigh (is a b) fs
+weightAt-weigh a b fs = sum-ext (λ f. cond-mul (eqb a (f .low) && eqb b (f .high)) (f .weight)) fs
+
+pub weightAt-collect : (a b : ℕ) (fs : List Focal) → weightAt a b (collect fs) ≡ weightAt a b fs
+weightAt-collect a b fs = weightAt-weigh a b (collect fs) ∙ (weigh-collect (is a b) fs ∙ sym (weightAt-weigh a b fs))
+
+pub belief-weigh : (d : ℕ) (fs : List Focal) → belief d fs ≡ weigh (λ a b. cond (leb d a) 1 0) fs
+belief-weigh d fs = sum-ext (λ f. cond-mul (leb d (f .low)) (f .weight)) fs
+
+pub plausibility-weigh : (d : ℕ) (fs : List Focal) → plausibility d fs ≡ weigh (λ a b. cond (leb d b) 1 0) fs
+plausibility-weigh d fs = sum-ext (λ f. cond-mul (leb d (f .high)) (f .weight)) fs
+
+-- A list in order, with no weight 0, is determined by its weights.
+at-self : (f : Focal) (fs : List Focal) → weightAt (f .low) (f .high) (f ∷ fs) ≡ f .weight + weightAt (f .low) (f .high) fs
+at-self f fs = rw (eq-eqb (f .low) (f .low) refl, eq-eqb (f .high) (f .high) refl) refl
+
+at-none : (f : Focal) {gs : List Focal} → Every (Before f) gs → weightAt (f .low) (f .high) gs ≡ 0
+at-none f Every.none = refl
+at-none f (Every.more {x = g} {xs = gs} p r) = rw (before-apart f g p) (omega (arith, at-none f r))
+
+pub canonical : {fs gs : List Focal} → InOrder fs → Every Weighty fs → InOrder gs → Every Weighty gs
+    → ((a b : ℕ) → weightAt a b fs ≡ weightAt a b gs) → fs ≡ gs
+canonical InOrder.none Every.none InOrder.none Every.none h = refl
+canonical InOrder.none Every.none (InOrder.more {f = g} {fs = gs} b s) (Every.more p q) h =
+    absurd (omega (arith, h (g .low) (g .high), at-self g gs))
+canonical (InOrder.more {f = f} {fs = fs} b s) (Every.more p q) InOrder.none Every.none h =
+    absurd (omega (arith, h (f .low) (f .high), at-self f fs))
+canonical (InOrder.more {f = f} {fs = fs} b s) (Every.more p q) (InOrder.more {f = g} {fs = gs} c t) (Every.more u v) h =
+    go (order f g) (placed f g) (λ k. canonical s q t v k)
+  where
+    go : (o : Ordering) → Placed f g o → (((x y : ℕ) → weightAt x y fs ≡ weightAt x y gs) → fs ≡ gs) → f ∷ fs ≡ g ∷ gs
+    go Ordering·lt (Placed.before k) r =
+        absurd (omega (arith, h (f .low) (f .high), at-self f fs, at-none f (before-all f g k c)))
+    go Ordering·gt (Placed.after k) r =
+        absurd (omega (arith, h (g .low) (g .high), at-self g gs, at-none g (before-all g f k b)))
+    go Ordering·eq (Placed.same k l) r =
+        let w : f .weight ≡ g .weight = omega (arith, h (f .low) (f .high), at-self f fs, at-none f b, ap₂ (λ x y. weightAt x y (g ∷ gs)) k l, at-self g gs, at-none g c) in
+        let fg : f ≡ g = λ i. record { low = k i; high = l i; weight = w i } in
+        ap₂ _∷_ fg (r (λ x y. omega (arith, h x y, ap (λ (j : Focal). cond (eqb x (j .low) && eqb y (j .high)) (j .weight) 0) fg)))
+
+-- Two lists with the same weighted sums are collected to the same list.
+pub same-collect : {fs gs : List Focal} → Every Weighty fs → Every Weighty gs → ((k : ℕ → ℕ → ℕ) → weigh k fs ≡ weigh k gs) → collect fs ≡ collect gs
+same-collect {fs} {gs} p q h =
+    canonical (order-collect fs) (weighty-collect p) (order-collect gs) (weighty-collect q)
+    (λ a b. weightAt-collect a b fs ∙ (weightAt-weigh a b fs ∙ (h (is a b) ∙ (sym (weightAt-weigh a b gs) ∙ sym (weightAt-collect a b gs)))))
+
+-- A list in order is its own collection.
+pub collect-fixed : {fs : List Focal} → InOrder fs → Every Weighty fs → collect fs ≡ fs
+collect-fixed {fs} o p = canonical (order-collect fs) (weighty-collect p) o p (λ a b. weightAt-collect a b fs)

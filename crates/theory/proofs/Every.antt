@@ -1,0 +1,37 @@
+-- Laws of a property of each element of a list. Assumes nothing.
+use Prim.Native.Nat.{ℕ, zero, suc, _<_}
+use mathlib.Core.List.{List, [], _∷_, _++_, map}
+use native.Mathlib.Omega.{arith}
+use lib.ListN.{length, getD}
+use Rattle.theory.specs.Sums.{forEach, oneOfEach, Every}
+
+pub every-map : {A : Type 0} {P Q : A → Type 0} → ((x : A) → P x → Q x) → {xs : List A} → Every P xs → Every Q xs
+every-map h Every.none = Every.none
+every-map h (Every.more {x = x} p r) = Every.more (h x p) (every-map h r)
+
+pub every-append : {A : Type 0} {P : A → Type 0} {xs ys : List A} → Every P xs → Every P ys → Every P (xs ++ ys)
+every-append Every.none q = q
+every-append (Every.more p r) q = Every.more p (every-append r q)
+
+pub every-image : {A B : Type 0} {P : B → Type 0} {Q : A → Type 0} (g : A → B) → ((x : A) → Q x → P (g x)) → {xs : List A} → Every Q xs → Every P (map g xs)
+every-image g h Every.none = Every.none
+every-image g h (Every.more {x = x} p r) = Every.more (h x p) (every-image g h r)
+
+-- what holds of each element of each list of a row holds of each element taken
+every-each : {A : Type 0} {P : A → Type 0} {l : List A} → Every P l → (ts : List (List A)) → Every (Every P) ts → Every (Every P) (forEach l (λ x. map (x ∷_) ts))
+every-each Every.none ts q = Every.none
+every-each (Every.more {x = x} p r) ts q = every-append (every-image (x ∷_) (λ t s. Every.more p s) q) (every-each r ts q)
+
+pub every-oneOfEach : {A : Type 0} {P : A → Type 0} {ls : List (List A)} → Every (Every P) ls → Every (Every P) (oneOfEach ls)
+every-oneOfEach Every.none = Every.more Every.none Every.none
+every-oneOfEach (Every.more {xs = ls} p r) = every-each p (oneOfEach ls) (every-oneOfEach r)
+
+-- from facts about each index, as a loop gives them
+pub every-of-index : {A : Type 0} {P : A → Type 0} (z : A) (xs : List A) → ((i : ℕ) → i < length xs → P (getD xs i z)) → Every P xs
+every-of-index z [] h = Every.none
+every-of-index z (x ∷ xs) h = Every.more (h 0 (omega arith)) (every-of-index z xs (λ i p. h (suc i) (omega arith)))
+
+pub index-of-every : {A : Type 0} {P : A → Type 0} (z : A) {xs : List A} → Every P xs → (i : ℕ) → i < length xs → P (getD xs i z)
+index-of-every z Every.none i h = absurd (omega arith)
+index-of-every z (Every.more p r) zero h = p
+index-of-every z (Every.more p r) (suc i) h = index-of-every z r i (omega arith)

@@ -1,0 +1,49 @@
+-- The order of intervals. A change of the order changes this file and `order`, `Before` of the specs. Assumes nothing.
+use Prim.Native.Nat.{ℕ, _≤_, _<_, compare, Ordering, Ordering·lt, Ordering·eq, Ordering·gt}
+use mathlib.Core.Path.{_≡_, refl, sym, ap}
+use mathlib.Core.Bool.{false, _&&_}
+use mathlib.Core.Logic.{inl, inr}
+use native.Mathlib.Omega.{arith}
+use lib.Dec.{eqb, isLe, isEq}
+use borrow.Author.Tests.{leb-true, leb-false, eqb-true, eqb-false, eq-eqb, ne-eqb}
+use Rattle.theory.specs.Focal.{Focal}
+use Rattle.theory.specs.Lists.{lexically, order, Before}
+
+compare-lt : (a b : ℕ) → compare a b ≡ Ordering·lt → a < b
+compare-lt a b e =
+    let p : a ≤ b = leb-true a b (ap isLe e) in
+    let q : a ≡ b → ⊥ = eqb-false a b (ap isEq e) in
+    omega arith
+
+compare-eq : (a b : ℕ) → compare a b ≡ Ordering·eq → a ≡ b
+compare-eq a b e = eqb-true a b (ap isEq e)
+
+compare-gt : (a b : ℕ) → compare a b ≡ Ordering·gt → b < a
+compare-gt a b e = leb-false a b (ap isLe e)
+
+-- what each answer of `order` says
+pub data Placed (f g : Focal) : Ordering → Type 0 where
+  before : Before f g → Placed f g Ordering·lt
+  same : f .low ≡ g .low → f .high ≡ g .high → Placed f g Ordering·eq
+  after : Before g f → Placed f g Ordering·gt
+
+pub placed : (f g : Focal) → Placed f g (order f g)
+placed f g = go (compare (f .low) (g .low)) refl (compare (f .high) (g .high)) refl
+  where
+    go : (o : Ordering) → compare (f .low) (g .low) ≡ o → (p : Ordering) → compare (f .high) (g .high) ≡ p → Placed f g (lexically o p)
+    go Ordering·lt e p k = before (inl (compare-lt _ _ e))
+    go Ordering·gt e p k = after (inl (compare-gt _ _ e))
+    go Ordering·eq e Ordering·lt k = before (inr (compare-eq _ _ e, compare-lt _ _ k))
+    go Ordering·eq e Ordering·eq k = same (compare-eq _ _ e) (compare-eq _ _ k)
+    go Ordering·eq e Ordering·gt k = after (inr (sym (compare-eq _ _ e), compare-gt _ _ k))
+
+pub before-trans : (f g h : Focal) → Before f g → Before g h → Before f h
+before-trans f g h (inl p) (inl q) = inl (omega arith)
+before-trans f g h (inl p) (inr q) = inl (omega arith)
+before-trans f g h (inr p) (inl q) = inl (omega arith)
+before-trans f g h (inr p) (inr q) = inr (omega arith)
+
+-- whether two are the same interval: never where one comes before the other
+pub before-apart : (f g : Focal) → Before f g → eqb (f .low) (g .low) && eqb (f .high) (g .high) ≡ false
+before-apart f g (inl p) = rw (ne-eqb (f .low) (g .low) (omega arith)) refl
+before-apart f g (inr p) = rw (eq-eqb (f .low) (g .low) (p .0), ne-eqb (f .high) (g .high) (omega arith)) refl

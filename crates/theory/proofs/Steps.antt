@@ -1,0 +1,86 @@
+-- Joining step by step, merging at each join, computes the definition of a sub-structure's list. Assumes nothing.
+use Prim.Native.Nat.{ℕ, zero, suc, _*_}
+use mathlib.Core.Path.{_≡_, refl, sym, ap, _∙_}
+use mathlib.Core.List.{List, [], _∷_, map}
+use native.Mathlib.Nat.{mul-assoc, mul-pos}
+use lib.ListN.{getD}
+use Rattle.theory.specs.Sums.{Every}
+use Rattle.theory.specs.Focal.{Focal, masses, Weighty, AllWeighty}
+use Rattle.theory.specs.Joins.{joined, joinedFocal, pairs}
+use Rattle.theory.specs.Structure.{Entry, component, join, step, run, Φ, Tree, leaf, node, trees}
+use Rattle.theory.specs.Lists.{collect, joinLists, noComponent, choicesOf, listOf}
+use Rattle.theory.specs.Division.{speeds}
+use Rattle.theory.specs.declared.Component.{Component}
+use Rattle.theory.specs.declared.Join.{Join}
+use Rattle.theory.proofs.Sums.{sum-ext, sum-scale, sum-map, sum-forEach}
+use Rattle.theory.proofs.Collect.{weigh, weigh-collect, weighty-collect, same-collect}
+use Rattle.theory.proofs.Every.{every-append}
+
+-- A weighted sum over the pairs is one over the first list of one over the second.
+pub weigh-pairs : (k : ℕ → ℕ → ℕ) (op : Join) (fs gs : List Focal)
+    → weigh k (pairs op fs gs) ≡ weigh (λ a b. weigh (λ c d. k (joined op a c) (joined op b d)) gs) fs
+weigh-pairs k op fs gs =
+    sum-forEach (λ f. f .weight * k (f .low) (f .high)) (λ f. map (joinedFocal op f) gs) fs
+    ∙ sum-ext (λ f. sum-map (λ h. h .weight * k (h .low) (h .high)) (joinedFocal op f) gs
+    ∙ (sum-ext (λ g. mul-assoc (f .weight) (g .weight) (k (joined op (f .low) (g .low)) (joined op (f .high) (g .high)))) gs
+    ∙ sum-scale (f .weight) (λ g. g .weight * k (joined op (f .low) (g .low)) (joined op (f .high) (g .high))) gs)) fs
+
+meets-weighty : (op : Join) (f : Focal) → Weighty f → {gs : List Focal} → Every Weighty gs → Every Weighty (map (joinedFocal op f) gs)
+meets-weighty op f p Every.none = Every.none
+meets-weighty op f p (Every.more q r) = Every.more (mul-pos p q) (meets-weighty op f p r)
+
+pub weighty-pairs : (op : Join) {fs gs : List Focal} → Every Weighty fs → Every Weighty gs → Every Weighty (pairs op fs gs)
+weighty-pairs op Every.none q = Every.none
+weighty-pairs op (Every.more {x = f} p r) q = every-append (meets-weighty op f p q) (weighty-pairs op r q)
+
+-- The lists may be collected before they are joined.
+pub collect-pairs : (op : Join) {fs gs : List Focal} → Every Weighty fs → Every Weighty gs
+    → collect (pairs op fs gs) ≡ collect (pairs op (collect fs) (collect gs))
+collect-pairs op {fs} {gs} p q =
+    same-collect (weighty-pairs op p q) (weighty-pairs op (weighty-collect p) (weighty-collect q))
+    (λ k. weigh-pairs k op fs gs
+    ∙ (sum-ext (λ f. ap (f .weight *_) (sym (weigh-collect (λ c d. k (joined op (f .low) c) (joined op (f .high) d)) gs))) fs
+    ∙ (sym (weigh-collect (λ a b. weigh (λ c d. k (joined op a c) (joined op b d)) (collect gs)) fs)
+    ∙ sym (weigh-pairs k op (collect fs) (collect gs)))))
+
+weighty-at : {cs : List Component} → AllWeighty cs → (i : ℕ) → Every Weighty (masses (getD cs i noComponent))
+weighty-at Every.none i = Every.none
+weighty-at (Every.more p r) zero = p
+weighty-at (Every.more p r) (suc i) = weighty-at r i
+
+pub weighty-choicesOf : {cs : List Component} → AllWeighty cs → (t : Tree) → Every Weighty (choicesOf cs t)
+weighty-choicesOf p (leaf i) = weighty-at p i
+weighty-choicesOf p (node op l r) = weighty-pairs op (weighty-choicesOf p l) (weighty-choicesOf p r)
+
+pub listOf-node : {cs : List Component} → AllWeighty cs → (op : Join) (l r : Tree)
+    → listOf cs (node op l r) ≡ collect (pairs op (listOf cs l) (listOf cs r))
+listOf-node p op l r = collect-pairs op (weighty-choicesOf p l) (weighty-choicesOf p r)
+
+-- One run of the entries is the image of another.
+module _ {A B : Type 0} (h : A → B) (la : ℕ → A) (ba : Join → A → A → A) (lb : ℕ → B) (bb : Join → B → B → B)
+    (hl : (i : ℕ) → h (la i) ≡ lb i) (hb : (op : Join) (x y : A) → h (ba op x y) ≡ bb op (h x) (h y)) where
+  step-map : (e : Entry) (stack : List A) → map h (step la ba e stack) ≡ step lb bb e (map h stack)
+  step-map (component i) stack = ap (_∷ map h stack) (hl i)
+  step-map (join op) [] = refl
+  step-map (join op) (y ∷ []) = refl
+  step-map (join op) (y ∷ x ∷ stack) = ap (_∷ map h stack) (hb op x y)
+
+  pub run-map : (es : List Entry) (stack : List A) → map h (run la ba es stack) ≡ run lb bb es (map h stack)
+  run-map [] stack = refl
+  run-map (e ∷ es) stack = run-map es (step la ba e stack) ∙ ap (run lb bb es) (step-map e stack)
+
+-- the speed of a sub-structure
+abbrev pub speedOf : List ℕ → Tree → ℕ
+speedOf speeds (leaf i) = getD speeds i 0
+speedOf speeds (node op l r) = joined op (speedOf speeds l) (speedOf speeds r)
+
+-- The structure function is the speed of the one tree that is left.
+pub Φ-tree : (es : List Entry) (t : Tree) → trees es ≡ t ∷ [] → (v : List ℕ) → Φ es v ≡ speedOf v t
+Φ-tree es t e v =
+    ap (λ (p : List ℕ). getD p 0 0) (sym (run-map (speedOf v) leaf node (λ i. getD v i 0) joined (λ i. refl) (λ op x y. refl) es []))
+    ∙ ap (λ (p : List Tree). getD (map (speedOf v) p) 0 0) e
+
+-- The run on lists, merging at each join, comes to the lists of the trees.
+pub run-lists : {cs : List Component} → AllWeighty cs → (es : List Entry)
+    → run (λ i. listOf cs (leaf i)) joinLists es [] ≡ map (listOf cs) (trees es)
+run-lists {cs} p es = sym (run-map (listOf cs) leaf node (λ i. listOf cs (leaf i)) joinLists (λ i. refl) (listOf-node p) es [])

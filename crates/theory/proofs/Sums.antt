@@ -1,0 +1,78 @@
+-- Laws of sums over lists. Assumes nothing.
+use Prim.Native.Nat.{ℕ, zero, suc, _+_, _*_, _≤_, _<_}
+use mathlib.Core.Path.{_≡_, refl, sym, ap, ap₂, _∙_}
+use mathlib.Core.Bool.{Bool, true, false, cond}
+use mathlib.Core.List.{List, [], _∷_, _++_, map}
+use native.Mathlib.Nat.{mul-one, add-zero, add-assoc, zero-add, mul-zero, mul-add, add-le-add, le-refl}
+use native.Mathlib.Omega.{arith}
+use lib.Dec.{eqb}
+use borrow.Author.Tests.{eqb-true, eqb-false, ne-eqb}
+use Rattle.theory.specs.Sums.{sumBy, forEach, oneOfEach, countFrom}
+
+module _ {A : Type 0} where
+  pub sum-append : (f : A → ℕ) (xs ys : List A) → sumBy f (xs ++ ys) ≡ sumBy f xs + sumBy f ys
+  sum-append f [] ys = sym (zero-add (sumBy f ys))
+  sum-append f (x ∷ xs) ys = rw (sum-append f xs ys) (sym (add-assoc (f x) (sumBy f xs) (sumBy f ys)))
+
+  pub sum-ext : {f g : A → ℕ} → ((x : A) → f x ≡ g x) → (xs : List A) → sumBy f xs ≡ sumBy g xs
+  sum-ext h [] = refl
+  sum-ext h (x ∷ xs) = ap₂ _+_ (h x) (sum-ext h xs)
+
+  pub sum-le : {f g : A → ℕ} → ((x : A) → f x ≤ g x) → (xs : List A) → sumBy f xs ≤ sumBy g xs
+  sum-le h [] = le-refl 0
+  sum-le h (x ∷ xs) = add-le-add (h x) (sum-le h xs)
+
+  pub sum-scale : (k : ℕ) (f : A → ℕ) (xs : List A) → sumBy (λ x. k * f x) xs ≡ k * sumBy f xs
+  sum-scale k f [] = sym (mul-zero k)
+  sum-scale k f (x ∷ xs) = rw (sum-scale k f xs) (sym (mul-add k (f x) (sumBy f xs)))
+
+  pub sum-add : (f g : A → ℕ) (xs : List A) → sumBy (λ x. f x + g x) xs ≡ sumBy f xs + sumBy g xs
+  sum-add f g [] = refl
+  sum-add f g (x ∷ xs) = omega (arith, sum-add f g xs)
+
+  pub sum-zero : (xs : List A) → sumBy (λ x. 0) xs ≡ 0
+  sum-zero [] = refl
+  sum-zero (x ∷ xs) = omega (arith, sum-zero xs)
+
+module _ {A B : Type 0} where
+  pub sum-map : (f : B → ℕ) (g : A → B) (xs : List A) → sumBy f (map g xs) ≡ sumBy (λ x. f (g x)) xs
+  sum-map f g [] = refl
+  sum-map f g (x ∷ xs) = ap (f (g x) +_) (sum-map f g xs)
+
+  pub sum-forEach : (f : B → ℕ) (g : A → List B) (xs : List A) → sumBy f (forEach xs g) ≡ sumBy (λ x. sumBy f (g x)) xs
+  sum-forEach f g [] = refl
+  sum-forEach f g (x ∷ xs) = sum-append f (g x) (forEach xs g) ∙ ap (sumBy f (g x) +_) (sum-forEach f g xs)
+
+  -- two sums change places
+  pub sum-swap : (f : A → B → ℕ) (xs : List A) (ys : List B) → sumBy (λ x. sumBy (f x) ys) xs ≡ sumBy (λ y. sumBy (λ x. f x y) xs) ys
+  sum-swap f [] ys = sym (sum-zero ys)
+  sum-swap f (x ∷ xs) ys = ap (sumBy (f x) ys +_) (sum-swap f xs ys) ∙ sym (sum-add (f x) (λ y. sumBy (λ z. f z y) xs) ys)
+
+module _ {A : Type 0} where
+  pub sum-oneOfEach : (f : List A → ℕ) (l : List A) (ls : List (List A)) → sumBy f (oneOfEach (l ∷ ls)) ≡ sumBy (λ x. sumBy (λ t. f (x ∷ t)) (oneOfEach ls)) l
+  sum-oneOfEach f l ls =
+      sum-forEach f (λ x. map (x ∷_) (oneOfEach ls)) l ∙ sum-ext (λ x. sum-map f (x ∷_) (oneOfEach ls)) l
+
+-- a sum with one term
+pub sum-out : (a : ℕ) (g : ℕ → ℕ) (k n : ℕ) → a < k → sumBy (λ v. cond (eqb v a) (g v) 0) (countFrom k n) ≡ 0
+sum-out a g k zero h = refl
+sum-out a g k (suc n) h =
+    rw (ne-eqb k a (omega arith)) (omega (arith, sum-out a g (suc k) n (omega arith)))
+
+pub sum-point : (a : ℕ) (g : ℕ → ℕ) (k n : ℕ) → k ≤ a → a < k + n → sumBy (λ v. cond (eqb v a) (g v) 0) (countFrom k n) ≡ g a
+sum-point a g k zero h l = absurd (omega arith)
+sum-point a g k (suc n) h l = go (eqb k a) refl (λ i. sum-point a g (suc k) n i (omega arith))
+  where
+    go : (b : Bool) → eqb k a ≡ b → (suc k ≤ a → sumBy (λ v. cond (eqb v a) (g v) 0) (countFrom (suc k) n) ≡ g a)
+        → cond (eqb k a) (g k) 0 + sumBy (λ v. cond (eqb v a) (g v) 0) (countFrom (suc k) n) ≡ g a
+    go true e r =
+        let q : k ≡ a = eqb-true k a e in
+        rw e (rw (sum-out a g (suc k) n (omega arith)) (add-zero (g k) ∙ ap g q))
+    go false e r =
+        let q : k ≡ a → ⊥ = eqb-false k a e in
+        rw e (zero-add _ ∙ r (omega arith))
+
+-- a test as a factor
+pub cond-mul : (b : Bool) (w : ℕ) → cond b w 0 ≡ w * cond b 1 0
+cond-mul true w = sym (mul-one w)
+cond-mul false w = sym (mul-zero w)

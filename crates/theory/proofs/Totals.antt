@@ -1,0 +1,114 @@
+-- The weights of a list add up to the product of the totals under it, and speeds stay below a bound: so all numbers fit. Assumes nothing.
+use Prim.Native.Nat.{ℕ, zero, suc, _+_, _*_, _^_, _≤_}
+use mathlib.Core.Path.{_≡_, refl, sym, ap, ap₂, _∙_}
+use mathlib.Core.List.{List, [], _∷_, _++_, map}
+use native.Mathlib.Nat.{mul-one, mul-assoc, mul-comm, mul-le-mul, le-trans, le-of-eq, pow-zero, pow-suc, one-mul}
+use native.Mathlib.Omega.{arith}
+use lib.ListN.{getD, length, length-append}
+use Rattle.theory.specs.Sums.{sumBy, productBy, Every}
+use Rattle.theory.specs.Focal.{Focal, masses, weights, total, Balanced}
+use Rattle.theory.specs.Joins.{joined, joinedFocal, pairs}
+use Rattle.theory.specs.Structure.{Entry, Tree, leaf, node, leaves}
+use Rattle.theory.specs.Choices.{choices, outcome, outcomes}
+use Rattle.theory.specs.Lists.{merged, collect, driveList, noComponent, choicesOf, listOf}
+use Rattle.theory.specs.declared.Component.{Component}
+use Rattle.theory.specs.declared.Join.{Join}
+use Rattle.theory.specs.declared.Join.the-variants.{Series, Shared, Spare}
+use Rattle.theory.proofs.Sums.{sum-ext, sum-map, sum-scale, sum-oneOfEach}
+use Rattle.theory.proofs.Monotone.{joined-mono}
+use Rattle.theory.proofs.Collect.{every-insert}
+use Rattle.theory.proofs.Steps.{weigh-pairs}
+use Rattle.theory.proofs.Lists.{weights-collect, weights-weigh}
+use Rattle.theory.proofs.Every.{every-map, every-append}
+
+balanced-at : {cs : List Component} → Balanced cs → (i : ℕ) → weights (masses (getD cs i noComponent)) ≡ (getD cs i noComponent) .total
+balanced-at Every.none i = refl
+balanced-at (Every.more p r) zero = p
+balanced-at (Every.more p r) (suc i) = balanced-at r i
+
+weights-pairs : (op : Join) (fs gs : List Focal) → weights (pairs op fs gs) ≡ weights fs * weights gs
+weights-pairs op fs gs =
+    weights-weigh (pairs op fs gs)
+    ∙ (weigh-pairs (λ a b. 1) op fs gs
+    ∙ (sum-ext (λ f. ap (f .weight *_) (sym (weights-weigh gs)) ∙ mul-comm (f .weight) (weights gs)) fs
+    ∙ (sum-scale (weights gs) (λ f. f .weight) fs ∙ mul-comm (weights gs) (weights fs))))
+
+product-append : {A : Type 0} (f : A → ℕ) (xs ys : List A) → productBy f (xs ++ ys) ≡ productBy f xs * productBy f ys
+product-append f [] ys = sym (one-mul (productBy f ys))
+product-append f (x ∷ xs) ys = ap (f x *_) (product-append f xs ys) ∙ sym (mul-assoc (f x) (productBy f xs) (productBy f ys))
+
+abbrev pub totalOf : List Component → Tree → ℕ
+totalOf cs t = productBy (λ i. (getD cs i noComponent) .total) (leaves t)
+
+weights-choicesOf : {cs : List Component} → Balanced cs → (t : Tree) → weights (choicesOf cs t) ≡ totalOf cs t
+weights-choicesOf p (leaf i) = balanced-at p i ∙ sym (mul-one _)
+weights-choicesOf {cs} p (node op l r) =
+    weights-pairs op (choicesOf cs l) (choicesOf cs r)
+    ∙ (ap₂ _*_ (weights-choicesOf p l) (weights-choicesOf p r) ∙ sym (product-append (λ i. (getD cs i noComponent) .total) (leaves l) (leaves r)))
+
+pub weights-listOf : {cs : List Component} → Balanced cs → (t : Tree) → weights (listOf cs t) ≡ totalOf cs t
+weights-listOf {cs} p t = weights-collect (choicesOf cs t) ∙ weights-choicesOf p t
+
+weights-choices : {cs : List Component} → Balanced cs → sumBy (productBy (λ f. f .weight)) (choices cs) ≡ total cs
+weights-choices Every.none = refl
+weights-choices (Every.more {x = c} {xs = cs} p r) =
+    sum-oneOfEach (productBy (λ f. f .weight)) (masses c) (map masses cs)
+    ∙ (sum-ext (λ f. sum-scale (f .weight) (productBy (λ g. g .weight)) (choices cs) ∙ (ap (f .weight *_) (weights-choices r) ∙ mul-comm (f .weight) (total cs))) (masses c)
+    ∙ (sum-scale (total cs) (λ f. f .weight) (masses c) ∙ (mul-comm (total cs) (weights (masses c)) ∙ ap (_* total cs) p)))
+
+pub weights-driveList : {cs : List Component} → Balanced cs → (es : List Entry) → weights (driveList es cs) ≡ total cs
+weights-driveList {cs} p es = weights-collect (outcomes es cs) ∙ (sum-map (λ f. f .weight) (outcome es) (choices cs) ∙ weights-choices p)
+
+-- one weight is at most the sum
+pub weight-le : (fs : List Focal) → Every (λ f. f .weight ≤ weights fs) fs
+weight-le [] = Every.none
+weight-le (f ∷ fs) = Every.more {x = f} (omega arith) (every-map (λ g h. omega arith) (weight-le fs))
+
+-- a product of totals up to 1,000
+pub total-le : (cs : List Component) → Every (λ c. c .total ≤ 1000) cs → total cs ≤ 1000 ^ length cs
+total-le [] Every.none = le-of-eq (sym (pow-zero 1000))
+total-le (c ∷ cs) (Every.more p r) = le-trans (mul-le-mul p (total-le cs r)) (le-of-eq (mul-comm 1000 (1000 ^ length cs) ∙ sym (pow-suc 1000 (length cs))))
+
+-- an interval of a list under n leaves: upright, and no higher than n times the top speed
+pub record Tall (top n : ℕ) (f : Focal) : Type 0 where
+  pub upright : f .low ≤ f .high
+  pub below : f .high ≤ top * n
+
+joined-le : (op : Join) (a b : ℕ) → joined op a b ≤ a + b
+joined-le Series a b = omega arith
+joined-le Shared a b = omega arith
+joined-le Spare a b = omega arith
+
+meet-tall : (top m n : ℕ) (op : Join) (f g : Focal) → Tall top m f → Tall top n g → Tall top (m + n) (joinedFocal op f g)
+meet-tall top m n op f g p q =
+    record {
+      upright = joined-mono op (p .upright) (q .upright);
+      below = omega (arith, joined-le op (f .high) (g .high), p .below, q .below);
+    }
+
+meets-tall : (top m n : ℕ) (op : Join) (f : Focal) → Tall top m f → {gs : List Focal} → Every (Tall top n) gs → Every (Tall top (m + n)) (map (joinedFocal op f) gs)
+meets-tall top m n op f p Every.none = Every.none
+meets-tall top m n op f p (Every.more {x = g} q r) = Every.more (meet-tall top m n op f g p q) (meets-tall top m n op f p r)
+
+pub pairs-tall : (top m n : ℕ) (op : Join) {fs gs : List Focal} → Every (Tall top m) fs → Every (Tall top n) gs → Every (Tall top (m + n)) (pairs op fs gs)
+pairs-tall top m n op Every.none q = Every.none
+pairs-tall top m n op (Every.more {x = f} p r) q = every-append (meets-tall top m n op f p q) (pairs-tall top m n op r q)
+
+tall-at : (top : ℕ) {cs : List Component} → Every (λ c. Every (Tall top 1) (masses c)) cs → (i : ℕ) → Every (Tall top 1) (masses (getD cs i noComponent))
+tall-at top Every.none i = Every.none
+tall-at top (Every.more p r) zero = p
+tall-at top (Every.more p r) (suc i) = tall-at top r i
+
+tall-choicesOf : (top : ℕ) {cs : List Component} → Every (λ c. Every (Tall top 1) (masses c)) cs → (t : Tree) → Every (Tall top (length (leaves t))) (choicesOf cs t)
+tall-choicesOf top p (leaf i) = tall-at top p i
+tall-choicesOf top p (node op l r) =
+    rw (length-append (leaves l) (leaves r)) (pairs-tall top (length (leaves l)) (length (leaves r)) op (tall-choicesOf top p l) (tall-choicesOf top p r))
+
+-- what speaks only of the interval stays true of each
+every-collect : (P : Focal → Type 0) → ((f g : Focal) → P f → P g → P (merged f g))
+    → {fs : List Focal} → Every P fs → Every P (collect fs)
+every-collect P m Every.none = Every.none
+every-collect P m (Every.more {x = f} p r) = every-insert P m f p (every-collect P m r)
+
+pub tall-listOf : (top : ℕ) {cs : List Component} → Every (λ c. Every (Tall top 1) (masses c)) cs → (t : Tree) → Every (Tall top (length (leaves t))) (listOf cs t)
+tall-listOf top p t = every-collect (Tall top (length (leaves t))) (λ f g h k. record { upright = k .upright; below = k .below }) (tall-choicesOf top p t)

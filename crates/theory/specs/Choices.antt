@@ -1,0 +1,47 @@
+-- The definition that decides: the sum over all choices of one interval per component, evaluated through the whole structure
+-- (source 002, definition 2.3 under independence, and formula (7)). Assumes nothing.
+use Prim.Native.Nat.{ℕ, _≤_}
+use mathlib.Core.Bool.{cond}
+use mathlib.Core.Path.{_≡_}
+use mathlib.Core.List.{List, [], _∷_, map}
+use lib.Dec.{leb}
+use Rattle.theory.specs.Sums.{sumBy, productBy, oneOfEach}
+use Rattle.theory.specs.Focal.{Focal, masses}
+use Rattle.theory.specs.Structure.{Entry, Φ}
+use Rattle.theory.specs.declared.Component.{Component}
+
+-- every choice of one interval for each component
+abbrev pub choices : List Component → List (List Focal)
+choices cs = oneOfEach (map masses cs)
+
+abbrev pub lows : List Focal → List ℕ
+lows = map (λ f. f .low)
+
+abbrev pub highs : List Focal → List ℕ
+highs = map (λ f. f .high)
+
+-- What a choice comes to: Φ of the lows, Φ of the highs, the product of the weights.
+abbrev pub outcome : List Entry → List Focal → Focal
+outcome es ch = record { low = Φ es (lows ch); high = Φ es (highs ch); weight = productBy (λ f. f .weight) ch }
+
+abbrev pub outcomes : List Entry → List Component → List Focal
+outcomes es cs = map (outcome es) (choices cs)
+
+-- Formula (7): the weights whose low is at least the demand d, and those whose high is.
+abbrev pub belief : ℕ → List Focal → ℕ
+belief d = sumBy (λ f. cond (leb d (f .low)) (f .weight) 0)
+
+abbrev pub plausibility : ℕ → List Focal → ℕ
+plausibility d = sumBy (λ f. cond (leb d (f .high)) (f .weight) 0)
+
+-- one speed inside each interval of a choice
+pub data Within : List Focal → List ℕ → Type 0 where
+  none : Within [] []
+  more : {f : Focal} {s : ℕ} {ch : List Focal} {v : List ℕ} → f .low ≤ s → s ≤ f .high → Within ch v → Within (f ∷ ch) (s ∷ v)
+
+-- The outcome of a choice spans its speeds: no speed lies outside, and both ends are speeds of the choice.
+pub record Spans (es : List Entry) (ch : List Focal) : Type 0 where
+  pub least : (v : List ℕ) → Within ch v → outcome es ch .low ≤ Φ es v
+  pub greatest : (v : List ℕ) → Within ch v → Φ es v ≤ outcome es ch .high
+  pub least-met : (v : List ℕ) × Within ch v × (Φ es v ≡ outcome es ch .low)
+  pub greatest-met : (v : List ℕ) × Within ch v × (Φ es v ≡ outcome es ch .high)

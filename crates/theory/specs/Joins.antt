@@ -1,0 +1,22 @@
+-- "Joins": the three joins of two speeds, and of two lists. Assumes nothing.
+use Prim.Native.Nat.{ℕ, _+_, _*_, min, max}
+use mathlib.Core.List.{List, map}
+use Rattle.theory.specs.Sums.{forEach}
+use Rattle.theory.specs.Focal.{Focal}
+use Rattle.theory.specs.declared.Join.{Join}
+use Rattle.theory.specs.declared.Join.the-variants.{Series, Shared, Spare}
+
+-- series: the smaller speed; shared: the sum; spare: the larger speed
+abbrev pub joined : Join → ℕ → ℕ → ℕ
+joined Series x y = min x y
+joined Shared x y = x + y
+joined Spare x y = max x y
+
+-- two intervals joined: lows and highs separately, weights multiplied
+abbrev pub joinedFocal : Join → Focal → Focal → Focal
+joinedFocal op f g =
+    record { low = joined op (f .low) (g .low); high = joined op (f .high) (g .high); weight = f .weight * g .weight }
+
+-- every interval of one list with every interval of the other
+abbrev pub pairs : Join → List Focal → List Focal → List Focal
+pairs op fs gs = forEach fs (λ f. map (joinedFocal op f) gs)

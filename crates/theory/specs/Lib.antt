@@ -1,0 +1,10 @@
+-- The drive calculation as document 01 defines it, in its order: "Words", "Joins", "Pairs, allowance and store".
+pub mod Sums
+pub mod Focal
+pub mod Joins
+pub mod Structure
+pub mod Choices
+pub mod Lists
+pub mod Evaluation
+pub mod Division
+pub mod Bounds

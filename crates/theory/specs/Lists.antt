@@ -1,0 +1,71 @@
+-- Lists: ascending by low, then by high, no interval twice; the drive's list and that of a sub-structure. Assumes nothing.
+use Prim.Native.Nat.{_+_, _<_, compare, Ordering, Ordering·lt, Ordering·eq, Ordering·gt}
+use mathlib.Core.Path.{_≡_}
+use mathlib.Core.Logic.{_⊎_}
+use mathlib.Core.List.{List, [], _∷_}
+use lib.ListN.{getD}
+use Rattle.theory.specs.Sums.{Every}
+use Rattle.theory.specs.Focal.{Focal, masses}
+use Rattle.theory.specs.Joins.{pairs}
+use Rattle.theory.specs.Structure.{Entry, Tree, leaf, node}
+use Rattle.theory.specs.Choices.{outcomes}
+use Rattle.theory.specs.declared.Component.{Component}
+use Rattle.theory.specs.declared.Join.{Join}
+
+-- the order of intervals: by low, then by high
+abbrev pub lexically : Ordering → Ordering → Ordering
+lexically Ordering·lt o = Ordering·lt
+lexically Ordering·eq o = o
+lexically Ordering·gt o = Ordering·gt
+
+abbrev pub order : Focal → Focal → Ordering
+order f g = lexically (compare (f .low) (g .low)) (compare (f .high) (g .high))
+
+-- f comes strictly before g
+abbrev pub Before : Focal → Focal → Type 0
+Before f g = (f .low < g .low) ⊎ ((f .low ≡ g .low) × (f .high < g .high))
+
+-- a list in order: each interval strictly before every later one
+pub data InOrder : List Focal → Type 0 where
+  none : InOrder []
+  more : {f : Focal} {fs : List Focal} → Every (Before f) fs → InOrder fs → InOrder (f ∷ fs)
+
+-- the weight of f added to the equal interval g
+abbrev pub merged : Focal → Focal → Focal
+merged f g = record { low = g .low; high = g .high; weight = f .weight + g .weight }
+
+-- A list in order with one interval more: equal intervals become one, weights added. `rest` is f inserted behind g.
+abbrev pub insertAt : Ordering → Focal → Focal → List Focal → List Focal → List Focal
+insertAt Ordering·lt f g gs rest = f ∷ g ∷ gs
+insertAt Ordering·eq f g gs rest = merged f g ∷ gs
+insertAt Ordering·gt f g gs rest = g ∷ rest
+
+abbrev pub insert : Focal → List Focal → List Focal
+insert f [] = f ∷ []
+insert f (g ∷ gs) = insertAt (order f g) f g gs (insert f gs)
+
+-- any intervals, made a list
+abbrev pub collect : List Focal → List Focal
+collect [] = []
+collect (f ∷ fs) = insert f (collect fs)
+
+-- The drive's list: the collected outcomes of all choices.
+abbrev pub driveList : List Entry → List Component → List Focal
+driveList es cs = collect (outcomes es cs)
+
+-- the list of a join of two lists
+abbrev pub joinLists : Join → List Focal → List Focal → List Focal
+joinLists op fs gs = collect (pairs op fs gs)
+
+-- past the last component there is none
+abbrev pub noComponent : Component
+noComponent = record { lows = []; highs = []; weights = []; count = 0; total = 0 }
+
+-- every choice of one interval for each component of a sub-structure
+abbrev pub choicesOf : List Component → Tree → List Focal
+choicesOf cs (leaf i) = masses (getD cs i noComponent)
+choicesOf cs (node op l r) = pairs op (choicesOf cs l) (choicesOf cs r)
+
+-- the list of a sub-structure
+abbrev pub listOf : List Component → Tree → List Focal
+listOf cs t = collect (choicesOf cs t)
