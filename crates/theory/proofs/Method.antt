@@ -7,7 +7,7 @@ use native.Mathlib.Omega.{arith}
 use lib.ListN.{length}
 use Rattle.theory.specs.Sums.{sumBy}
 use Rattle.theory.specs.Focal.{AllWeighty}
-use Rattle.theory.specs.Structure.{Entry, NamedOnce, joinsFindTwo, Tree}
+use Rattle.theory.specs.Structure.{Entry, NamedOnce, joinsFindTwo, Tree, trees}
 use Rattle.theory.specs.Lists.{driveList, listOf}
 use Rattle.theory.specs.Evaluation.{pairCount, completed, evaluate}
 use Rattle.theory.specs.declared.Component.{Component}
@@ -18,7 +18,8 @@ use Rattle.theory.proofs.Bridge.{drive-is-tree}
 -- What a completed evaluation leaves: one sub-structure, whose list is the drive's, and its pairs.
 pub record Leaves (cs : List Component) (es : List Entry) (stack : List Tree) (pairs : ℕ) : Type 0 where
   pub tree : Tree
-  pub one : stack ≡ tree ∷ []
+  pub built : trees es ≡ tree ∷ []
+  pub left : stack ≡ tree ∷ []
   pub list : listOf cs tree ≡ driveList es cs
   pub counted : pairs ≡ pairCount cs tree
 
@@ -31,7 +32,8 @@ method {cs} p allowance es l names two stack pairs e =
     let (same, count) = evaluate-count cs allowance es stack pairs e in
     record {
       tree = t;
-      one = same ∙ one;
+      built = one;
+      left = same ∙ one;
       list = sym (drive-is-tree p es t one each);
       counted = omega (arith, count, ap (sumBy (pairCount cs)) (same ∙ one));
     }

@@ -2,6 +2,7 @@
 use Prim.Native.Nat.{ℕ, _+_, _*_}
 use mathlib.Core.Path.{_≡_, refl, sym, ap, _∙_}
 use mathlib.Core.Bool.{Bool, true, false}
+use mathlib.Core.Logic.{_⊎_, inl, inr}
 use mathlib.Core.List.{List, [], _∷_, map}
 use native.Mathlib.Omega.{arith}
 use lib.Dec.{ltb}
@@ -68,3 +69,22 @@ module _ (cs : List Component) (allowance : ℕ) where
   pub evaluate-count : (es : List Entry) (q : List Tree) (m : ℕ) → evaluate cs allowance es ≡ completed q m
       → (q ≡ trees es) × (m ≡ sumBy (pairCount cs) q)
   evaluate-count es q m e = walk-count es [] 0 refl q m e
+
+-- a refusal is 13 or 14
+either-test : {A : Type 0} (b c : Bool) (a : Evaluation A) (k : ℕ) → refuseIf b 13 (refuseIf c 14 a) ≡ refused k
+    → (a ≡ refused k → (k ≡ 13) ⊎ (k ≡ 14)) → (k ≡ 13) ⊎ (k ≡ 14)
+either-test true c a k e r = inl cc
+either-test false true a k e r = inr cc
+either-test false false a k e r = r e
+
+module _ (cs : List Component) (allowance : ℕ) where
+  walk-refused : (es : List Entry) (stack : List Tree) (n k : ℕ) → walk allowance (listOf cs) leaf node es stack n ≡ refused k → (k ≡ 13) ⊎ (k ≡ 14)
+  walk-refused [] stack n k e = absurd (let z : _≡_ {A = ℕ} 0 1 = cc in omega arith)
+  walk-refused (component i ∷ es) stack n k e = walk-refused es (leaf i ∷ stack) n k e
+  walk-refused (join op ∷ es) [] n k e = walk-refused es [] n k e
+  walk-refused (join op ∷ es) (y ∷ []) n k e = walk-refused es (y ∷ []) n k e
+  walk-refused (join op ∷ es) (y ∷ x ∷ stack) n k e = either-test (ltb allowance (n + length (listOf cs x) * length (listOf cs y))) (ltb mostIntervals (length (listOf cs (node op x y)))) _ k e
+      (walk-refused es (node op x y ∷ stack) (n + length (listOf cs x) * length (listOf cs y)) k)
+
+  pub evaluate-refused : (es : List Entry) (k : ℕ) → evaluate cs allowance es ≡ refused k → (k ≡ 13) ⊎ (k ≡ 14)
+  evaluate-refused es k e = walk-refused es [] 0 k e
