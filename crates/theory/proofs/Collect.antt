@@ -48,7 +48,7 @@ every-insert P m f h (Every.more {x = g} {xs = gs} p r) = go (order f g) (every-
 pub before-all : (f g : Focal) → Before f g → {gs : List Focal} → Every (Before g) gs → Every (Before f) (g ∷ gs)
 before-all f g p b = Every.more p (every-map (λ h q. before-trans f g h p q) b)
 
-order-insert : (f : Focal) {gs : List Focal} → InOrder gs → InOrder (insert f gs)
+pub order-insert : (f : Focal) {gs : List Focal} → InOrder gs → InOrder (insert f gs)
 order-insert f InOrder.none = InOrder.more Every.none InOrder.none
 order-insert f (InOrder.more {f = g} {fs = gs} b r) = go (order f g) (placed f g) (order-insert f r)
   where

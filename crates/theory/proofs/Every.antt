@@ -9,6 +9,10 @@ pub every-map : {A : Type 0} {P Q : A → Type 0} → ((x : A) → P x → Q x) 
 every-map h Every.none = Every.none
 every-map h (Every.more {x = x} p r) = Every.more (h x p) (every-map h r)
 
+pub every-all : {A : Type 0} {P : A → Type 0} → ((x : A) → P x) → (xs : List A) → Every P xs
+every-all h [] = Every.none
+every-all h (x ∷ xs) = Every.more (h x) (every-all h xs)
+
 pub every-append : {A : Type 0} {P : A → Type 0} {xs ys : List A} → Every P xs → Every P ys → Every P (xs ++ ys)
 every-append Every.none q = q
 every-append (Every.more p r) q = Every.more p (every-append r q)

@@ -21,7 +21,7 @@ never : (f g : Focal) → f .low ≡ g .low → f .high ≡ g .high → Before f
 never f g p q (inl h) = omega arith
 never f g p q (inr h) = omega arith
 
-order-before : (f g : Focal) → Before f g → order f g ≡ Ordering·lt
+pub order-before : (f g : Focal) → Before f g → order f g ≡ Ordering·lt
 order-before f g b = go (order f g) (placed f g)
   where
     go : (o : Ordering) → Placed f g o → o ≡ Ordering·lt

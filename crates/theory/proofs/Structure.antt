@@ -5,7 +5,7 @@ use mathlib.Core.Bool.{true, cond, false≢true}
 use mathlib.Core.List.{List, [], _∷_, _++_}
 use native.Mathlib.Omega.{arith}
 use lib.Dec.{eqb}
-use lib.ListN.{length}
+use lib.ListN.{length, length-append}
 use borrow.Author.Tests.{eq-eqb}
 use Rattle.theory.specs.Sums.{sumBy, countFrom, countOf}
 use Rattle.theory.specs.Structure.{Entry, component, join, run, named, NamedOnce, joinsFindTwo, Tree, leaf, node, trees, leaves}
@@ -25,6 +25,17 @@ run-named i (component j ∷ es) stack = omega (arith, run-named i es (leaf j �
 run-named i (join op ∷ es) [] = run-named i es []
 run-named i (join op ∷ es) (y ∷ []) = run-named i es (y ∷ [])
 run-named i (join op ∷ es) (y ∷ x ∷ stack) = omega (arith, run-named i es (node op x y ∷ stack), count-append i (leaves x) (leaves y))
+
+-- how many leaves the trees of a stack have
+abbrev pub leafCount : List Tree → ℕ
+leafCount = sumBy (λ t. length (leaves t))
+
+pub run-leaves : (es : List Entry) (stack : List Tree) → leafCount (run leaf node es stack) ≡ leafCount stack + length (named es)
+run-leaves [] stack = omega arith
+run-leaves (component j ∷ es) stack = omega (arith, run-leaves es (leaf j ∷ stack))
+run-leaves (join op ∷ es) [] = run-leaves es []
+run-leaves (join op ∷ es) (y ∷ []) = run-leaves es (y ∷ [])
+run-leaves (join op ∷ es) (y ∷ x ∷ stack) = omega (arith, run-leaves es (node op x y ∷ stack), length-append (leaves x) (leaves y))
 
 -- the height at the end: each component adds one, each join takes one away
 run-height : (es : List Entry) (stack : List Tree) → joinsFindTwo es (length stack) ≡ true
@@ -52,10 +63,13 @@ one-left [] h = absurd (omega arith)
 one-left (t ∷ []) h = (t, refl)
 one-left (t ∷ u ∷ ts) h = absurd (omega arith)
 
+pub named-length : (n : ℕ) (es : List Entry) → NamedOnce n es → length (named es) ≡ n
+named-length n es names = same-length (countFrom 0 n) (named es) (λ j. names j ∙ sym (count-all j n)) ∙ length-countFrom 0 n
+
 pub one-tree : (n : ℕ) (es : List Entry) → length es + 1 ≡ 2 * n → NamedOnce n es → joinsFindTwo es 0 ≡ true
     → (t : Tree) × (trees es ≡ t ∷ []) × NamesEach n t
 one-tree n es l names h =
-    let k : length (named es) ≡ n = same-length (countFrom 0 n) (named es) (λ j. names j ∙ sym (count-all j n)) ∙ length-countFrom 0 n in
+    let k : length (named es) ≡ n = named-length n es names in
     let a : length (run leaf node es []) + length es ≡ 0 + 2 * length (named es) = run-height es [] h in
     go (one-left (trees es) (omega arith))
   where

@@ -19,7 +19,7 @@ use Rattle.theory.proofs.Monotone.{joined-mono}
 use Rattle.theory.proofs.Collect.{every-insert}
 use Rattle.theory.proofs.Steps.{weigh-pairs}
 use Rattle.theory.proofs.Lists.{weights-collect, weights-weigh}
-use Rattle.theory.proofs.Every.{every-map, every-append}
+use Rattle.theory.proofs.Every.{every-map, every-append, every-all}
 
 balanced-at : {cs : List Component} → Balanced cs → (i : ℕ) → weights (masses (getD cs i noComponent)) ≡ (getD cs i noComponent) .total
 balanced-at Every.none i = refl
@@ -64,10 +64,20 @@ pub weight-le : (fs : List Focal) → Every (λ f. f .weight ≤ weights fs) fs
 weight-le [] = Every.none
 weight-le (f ∷ fs) = Every.more {x = f} (omega arith) (every-map (λ g h. omega arith) (weight-le fs))
 
--- a product of totals up to 1,000
-pub total-le : (cs : List Component) → Every (λ c. c .total ≤ 1000) cs → total cs ≤ 1000 ^ length cs
-total-le [] Every.none = le-of-eq (sym (pow-zero 1000))
-total-le (c ∷ cs) (Every.more p r) = le-trans (mul-le-mul p (total-le cs r)) (le-of-eq (mul-comm 1000 (1000 ^ length cs) ∙ sym (pow-suc 1000 (length cs))))
+-- a product of numbers up to k
+pub product-le : {A : Type 0} (f : A → ℕ) (k : ℕ) → {xs : List A} → Every (λ x. f x ≤ k) xs → productBy f xs ≤ k ^ length xs
+product-le f k Every.none = le-of-eq (sym (pow-zero k))
+product-le f k (Every.more {xs = xs} p r) =
+    le-trans (mul-le-mul p (product-le f k r)) (le-of-eq (mul-comm k (k ^ length xs) ∙ sym (pow-suc k (length xs))))
+
+total-at-most : {cs : List Component} → Every (λ c. c .total ≤ 1000) cs → (i : ℕ) → (getD cs i noComponent) .total ≤ 1000
+total-at-most Every.none i = omega arith
+total-at-most (Every.more p r) zero = p
+total-at-most (Every.more p r) (suc i) = total-at-most r i
+
+-- so the totals under a sub-structure fit 64 bits
+pub totalOf-le : {cs : List Component} → Every (λ c. c .total ≤ 1000) cs → (t : Tree) → totalOf cs t ≤ 1000 ^ length (leaves t)
+totalOf-le {cs} p t = product-le (λ i. (getD cs i noComponent) .total) 1000 (every-all (total-at-most p) (leaves t))
 
 -- an interval of a list under n leaves: upright, and no higher than n times the top speed
 pub record Tall (top n : ℕ) (f : Focal) : Type 0 where
