@@ -1,0 +1,30 @@
+-- Laws of a row: its length, its places, and that it depends on the used places alone. Assumes nothing.
+use mathlib.Core.Path.{_≡_, refl, _∙_}
+use Prim.Native.Nat.{ℕ, zero, suc, _≤_, _<_}
+use native.Mathlib.Decide.{ℕ-discrete}
+use native.Mathlib.Omega.{arith}
+use lib.ListN.{length, getD, length-set, length-replicate}
+use lib.Seq.{getD-set-same, getD-set-other}
+use Rattle.block.specs.Rows.{row}
+
+module _ {A : Type 0} (d : A) (m : ℕ) where
+  pub length-row : (f : ℕ → A) (k : ℕ) → length (row d m f k) ≡ m
+  unfolding row
+  length-row f zero = length-replicate m d
+  length-row f (suc k) = length-set (row d m f k) k (f k) ∙ length-row f k
+
+  pub row-ext : (f g : ℕ → A) (k : ℕ) → ((i : ℕ) → i < k → f i ≡ g i) → row d m f k ≡ row d m g k
+  unfolding row
+  row-ext f g zero h = refl
+  row-ext f g (suc k) h = rw (row-ext f g k (λ i p. h i (omega arith)), h k (omega arith))
+
+  -- a used place
+  pub row-used : (e : A) (f : ℕ → A) (k i : ℕ) → i < k → k ≤ m → getD (row d m f k) i e ≡ f i
+  unfolding row
+  row-used e f zero i h l = absurd (omega arith)
+  row-used e f (suc k) i h l = elim (ℕ-discrete i k) [
+    | yes x ↦
+        let p : k < length (row d m f k) = rw (length-row f k) l in
+        rw x (getD-set-same (row d m f k) k (f k) e p)
+    | no n ↦ getD-set-other (row d m f k) k i (f k) e n ∙ row-used e f k i (omega arith) (omega arith)
+  ]

@@ -1,0 +1,30 @@
+-- "The sheet": fields are bit-packed, most significant first. Bits of a list of bytes, and the field of w bits at bit a. Assumes nothing.
+use Prim.Native.Nat.{ℕ, zero, suc, _+_, _-_, _*_, _/_, _%_, _^_, _<_}
+use mathlib.Core.List.{List}
+use lib.ListN.{getD, set}
+
+-- a list of bytes
+abbrev pub Bytes : List ℕ → Type 0
+Bytes s = (i : ℕ) → getD s i 0 < 256
+
+-- bit j of the bytes s: bit 0 is the most significant of the first byte
+unfoldable pub bit : List ℕ → ℕ → ℕ
+bit s j = getD s (j / 8) 0 / 2 ^ (7 - j % 8) % 2
+
+-- the number that the w bits from bit a spell, the most significant first
+unfoldable pub fieldAt : List ℕ → ℕ → ℕ → ℕ
+fieldAt s a zero = 0
+fieldAt s a (suc w) = 2 * fieldAt s a w + bit s (a + w)
+
+-- the number x with the bit of weight p set to b
+abbrev pub withBit : ℕ → ℕ → ℕ → ℕ
+withBit x p b = x - x / p % 2 * p + b * p
+
+-- the bytes s with bit j set to b
+unfoldable pub setBit : List ℕ → ℕ → ℕ → List ℕ
+setBit s j b = set s (j / 8) (withBit (getD s (j / 8) 0) (2 ^ (7 - j % 8)) b)
+
+-- the bytes s with the w bits from bit a set to the lowest w bits of v, the most significant first
+unfoldable pub putAt : List ℕ → ℕ → ℕ → ℕ → List ℕ
+putAt s a zero v = s
+putAt s a (suc w) v = setBit (putAt s a w (v / 2)) (a + w) (v % 2)

@@ -1,0 +1,33 @@
+-- Fields in a row: how they stand in bytes, and bytes with them put in. Assumes nothing.
+use mathlib.Core.Path.{_≡_}
+use mathlib.Core.List.{List, [], _∷_}
+use Prim.Native.Nat.{ℕ, _+_, _^_, _<_}
+use Rattle.field.specs.Bits.{fieldAt, putAt}
+
+-- a field: a number and its width in bits
+pub record Field : Type 0 where
+  pub width : ℕ
+  pub value : ℕ
+
+abbrev pub bits : ℕ → ℕ → Field
+bits w v = record { width = w; value = v }
+
+-- how many bits fields take
+unfoldable pub widthOf : List Field → ℕ
+widthOf [] = 0
+widthOf (f ∷ fs) = f .width + widthOf fs
+
+-- each number is below two to its width
+unfoldable pub Fitting : List Field → Type 0
+Fitting [] = Unit {0}
+Fitting (f ∷ fs) = (f .value < 2 ^ f .width) × Fitting fs
+
+-- the fields stand in s, in a row, from bit a
+unfoldable pub Holds : List ℕ → ℕ → List Field → Type 0
+Holds s a [] = Unit {0}
+Holds s a (f ∷ fs) = (fieldAt s a (f .width) ≡ f .value) × Holds s (a + f .width) fs
+
+-- the bytes s with the fields put in, in a row, from bit a
+unfoldable pub putAll : List ℕ → ℕ → List Field → List ℕ
+putAll s a [] = s
+putAll s a (f ∷ fs) = putAll (putAt s a (f .width) (f .value)) (a + f .width) fs

@@ -1,0 +1,68 @@
+// A reader that refers to a sheet and knows its next bit, with thin functions over it, and one above them with plain parameters.
+ghost use mathlib.Core.Path.{_≡_};
+ghost use Prim.Native.Nat.{_+_, _*_, _≤_, _<_, _^_};
+ghost use lib.ListN.{length};
+ghost use Rattle.field.specs.Bits.{fieldAt};
+ghost use Rattle.reader.specs.Three.{threeAt};
+
+pub struct Reader<'a> {
+    pub src: &'a [u8],
+    pub at: usize,
+}
+
+// Three fields.
+pub struct Triple {
+    pub first: u32,
+    pub second: u32,
+    pub third: u32,
+}
+
+// The reader of src whose next bit is at.
+pub fn from_bit<'a>(src: &'a [u8], at: usize) -> Reader<'a>
+    ensures { λ r. ⌜ (r .src ≡ src .entry) × (r .at ≡ at) ⌝ }
+{
+    Reader { src, at }
+}
+
+// The field of width bits at the reader's next bit.
+pub fn take<'a>(r: Reader<'a>, width: usize) -> u32
+    requires { ⌜ (width ≤ 32) × (r .at + width ≤ 8 * length (now (r .src))) × (r .at + width ≤ 65536) ⌝ }
+    ensures { λ v. ⌜ v ≡ fieldAt (now (r .entry .src)) (r .entry .at) width ⌝ }
+{
+    field::field_at(r.src, r.at, width)
+}
+
+// The reader behind width bits more.
+pub fn past<'a>(r: Reader<'a>, width: usize) -> Reader<'a>
+    requires { ⌜ r .at + width < 2 ^ 64 ⌝ }
+    ensures { λ q. ⌜ (q .src ≡ r .entry .src) × (q .at ≡ r .entry .at + width) ⌝ }
+{
+    Reader {
+        src: r.src,
+        at: r.at + width,
+    }
+}
+
+fn triple_of(first: u32, second: u32, third: u32) -> Triple
+    ensures { λ r. ⌜ r ≡ record { first = first; second = second; third = third } ⌝ }
+{
+    Triple {
+        first,
+        second,
+        third,
+    }
+}
+
+// Three fields in a row from bit at, of a, b and c bits, through one reader. A width of 0 leaves a field out.
+pub fn three(src: &[u8], at: usize, a: usize, b: usize, c: usize) -> Triple
+    requires { ⌜ (a ≤ 32) × (b ≤ 32) × (c ≤ 32) × (at + a + b + c ≤ 8 * length (now src)) × (at + a + b + c ≤ 65536) ⌝ }
+    ensures { λ r. ⌜ r ≡ threeAt (now (src .entry)) at a b c ⌝ }
+{
+    let r = from_bit(src, at);
+    let first = take(r, a);
+    let s = past(r, a);
+    let second = take(s, b);
+    let t = past(s, b);
+    let third = take(t, c);
+    triple_of(first, second, third)
+}
