@@ -74,6 +74,10 @@ length-insert f (g ∷ gs) = go (order f g) (length-insert f gs)
     go Ordering·eq h = omega arith
     go Ordering·gt h = omega arith
 
+pub length-collect : (fs : List Focal) → length (collect fs) ≤ length fs
+length-collect [] = omega arith
+length-collect (f ∷ fs) = omega (arith, length-insert f (collect fs), length-collect fs)
+
 -- the shares read from the drive's list
 pub belief-collect : (d : ℕ) (fs : List Focal) → belief d (collect fs) ≡ belief d fs
 belief-collect d fs = belief-weigh d (collect fs) ∙ (weigh-collect _ fs ∙ sym (belief-weigh d fs))

@@ -1,5 +1,5 @@
 -- Joining step by step, merging at each join, computes the definition of a sub-structure's list. Assumes nothing.
-use Prim.Native.Nat.{ℕ, zero, suc, _*_}
+use Prim.Native.Nat.{ℕ, _*_}
 use mathlib.Core.Path.{_≡_, refl, sym, ap, _∙_}
 use mathlib.Core.List.{List, [], _∷_, map}
 use native.Mathlib.Nat.{mul-assoc, mul-pos}
@@ -14,7 +14,7 @@ use Rattle.theory.specs.declared.Component.{Component}
 use Rattle.theory.specs.declared.Join.{Join}
 use Rattle.theory.proofs.Sums.{sum-ext, sum-scale, sum-map, sum-forEach}
 use Rattle.theory.proofs.Collect.{weigh, weigh-collect, weighty-collect, same-collect}
-use Rattle.theory.proofs.Every.{every-append}
+use Rattle.theory.proofs.Every.{every-append, every-getD}
 
 -- A weighted sum over the pairs is one over the first list of one over the second.
 pub weigh-pairs : (k : ℕ → ℕ → ℕ) (op : Join) (fs gs : List Focal)
@@ -43,13 +43,8 @@ collect-pairs op {fs} {gs} p q =
     ∙ (sym (weigh-collect (λ a b. weigh (λ c d. k (joined op a c) (joined op b d)) (collect gs)) fs)
     ∙ sym (weigh-pairs k op (collect fs) (collect gs)))))
 
-weighty-at : {cs : List Component} → AllWeighty cs → (i : ℕ) → Every Weighty (masses (getD cs i noComponent))
-weighty-at Every.none i = Every.none
-weighty-at (Every.more p r) zero = p
-weighty-at (Every.more p r) (suc i) = weighty-at r i
-
 pub weighty-choicesOf : {cs : List Component} → AllWeighty cs → (t : Tree) → Every Weighty (choicesOf cs t)
-weighty-choicesOf p (leaf i) = weighty-at p i
+weighty-choicesOf p (leaf i) = every-getD (λ c. Every Weighty (masses c)) noComponent Every.none p i
 weighty-choicesOf p (node op l r) = weighty-pairs op (weighty-choicesOf p l) (weighty-choicesOf p r)
 
 pub listOf-node : {cs : List Component} → AllWeighty cs → (op : Join) (l r : Tree)

@@ -1,12 +1,13 @@
 -- The weights of a list add up to the product of the totals under it, and speeds stay below a bound: so all numbers fit. Assumes nothing.
-use Prim.Native.Nat.{ℕ, zero, suc, _+_, _*_, _^_, _≤_}
+use Prim.Native.Nat.{ℕ, _+_, _*_, _^_, _≤_, _<_}
 use mathlib.Core.Path.{_≡_, refl, sym, ap, ap₂, _∙_}
 use mathlib.Core.List.{List, [], _∷_, _++_, map}
-use native.Mathlib.Nat.{mul-one, mul-assoc, mul-comm, mul-le-mul, le-trans, le-of-eq, pow-zero, pow-suc, one-mul}
+use native.Mathlib.Nat.{mul-one, mul-assoc, mul-comm, mul-le-mul, le-trans, le-of-eq, pow-zero, pow-suc, pow-le-pow-right, one-mul}
 use native.Mathlib.Omega.{arith}
+use lib.Pow.{pow-add}
 use lib.ListN.{getD, length, length-append}
 use Rattle.theory.specs.Sums.{sumBy, productBy, Every}
-use Rattle.theory.specs.Focal.{Focal, masses, weights, total, Balanced}
+use Rattle.theory.specs.Focal.{topSpeed, Focal, masses, weights, total, AllInRange, Balanced}
 use Rattle.theory.specs.Joins.{joined, joinedFocal, pairs}
 use Rattle.theory.specs.Structure.{Entry, Tree, leaf, node, leaves}
 use Rattle.theory.specs.Choices.{choices, outcome, outcomes}
@@ -19,12 +20,7 @@ use Rattle.theory.proofs.Monotone.{joined-mono}
 use Rattle.theory.proofs.Collect.{every-insert}
 use Rattle.theory.proofs.Steps.{weigh-pairs}
 use Rattle.theory.proofs.Lists.{weights-collect, weights-weigh}
-use Rattle.theory.proofs.Every.{every-map, every-append, every-all}
-
-balanced-at : {cs : List Component} → Balanced cs → (i : ℕ) → weights (masses (getD cs i noComponent)) ≡ (getD cs i noComponent) .total
-balanced-at Every.none i = refl
-balanced-at (Every.more p r) zero = p
-balanced-at (Every.more p r) (suc i) = balanced-at r i
+use Rattle.theory.proofs.Every.{every-map, every-append, every-all, every-getD}
 
 weights-pairs : (op : Join) (fs gs : List Focal) → weights (pairs op fs gs) ≡ weights fs * weights gs
 weights-pairs op fs gs =
@@ -41,7 +37,7 @@ abbrev pub totalOf : List Component → Tree → ℕ
 totalOf cs t = productBy (λ i. (getD cs i noComponent) .total) (leaves t)
 
 weights-choicesOf : {cs : List Component} → Balanced cs → (t : Tree) → weights (choicesOf cs t) ≡ totalOf cs t
-weights-choicesOf p (leaf i) = balanced-at p i ∙ sym (mul-one _)
+weights-choicesOf p (leaf i) = every-getD (λ c. weights (masses c) ≡ c .total) noComponent refl p i ∙ sym (mul-one _)
 weights-choicesOf {cs} p (node op l r) =
     weights-pairs op (choicesOf cs l) (choicesOf cs r)
     ∙ (ap₂ _*_ (weights-choicesOf p l) (weights-choicesOf p r) ∙ sym (product-append (λ i. (getD cs i noComponent) .total) (leaves l) (leaves r)))
@@ -70,49 +66,39 @@ product-le f k Every.none = le-of-eq (sym (pow-zero k))
 product-le f k (Every.more {xs = xs} p r) =
     le-trans (mul-le-mul p (product-le f k r)) (le-of-eq (mul-comm k (k ^ length xs) ∙ sym (pow-suc k (length xs))))
 
-total-at-most : {cs : List Component} → Every (λ c. c .total ≤ 1000) cs → (i : ℕ) → (getD cs i noComponent) .total ≤ 1000
-total-at-most Every.none i = omega arith
-total-at-most (Every.more p r) zero = p
-total-at-most (Every.more p r) (suc i) = total-at-most r i
-
 -- so the totals under a sub-structure fit 64 bits
 pub totalOf-le : {cs : List Component} → Every (λ c. c .total ≤ 1000) cs → (t : Tree) → totalOf cs t ≤ 1000 ^ length (leaves t)
-totalOf-le {cs} p t = product-le (λ i. (getD cs i noComponent) .total) 1000 (every-all (total-at-most p) (leaves t))
+totalOf-le {cs} p t = product-le (λ i. (getD cs i noComponent) .total) 1000 (every-all (every-getD (λ c. c .total ≤ 1000) noComponent (omega arith) p) (leaves t))
 
 -- an interval of a list under n leaves: upright, and no higher than n times the top speed
-pub record Tall (top n : ℕ) (f : Focal) : Type 0 where
+pub record Tall (n : ℕ) (f : Focal) : Type 0 where
   pub upright : f .low ≤ f .high
-  pub below : f .high ≤ top * n
+  pub below : f .high ≤ topSpeed * n
 
 joined-le : (op : Join) (a b : ℕ) → joined op a b ≤ a + b
 joined-le Series a b = omega arith
 joined-le Shared a b = omega arith
 joined-le Spare a b = omega arith
 
-meet-tall : (top m n : ℕ) (op : Join) (f g : Focal) → Tall top m f → Tall top n g → Tall top (m + n) (joinedFocal op f g)
-meet-tall top m n op f g p q =
+joined-tall : (m n : ℕ) (op : Join) (f g : Focal) → Tall m f → Tall n g → Tall (m + n) (joinedFocal op f g)
+joined-tall m n op f g p q =
     record {
       upright = joined-mono op (p .upright) (q .upright);
       below = omega (arith, joined-le op (f .high) (g .high), p .below, q .below);
     }
 
-meets-tall : (top m n : ℕ) (op : Join) (f : Focal) → Tall top m f → {gs : List Focal} → Every (Tall top n) gs → Every (Tall top (m + n)) (map (joinedFocal op f) gs)
-meets-tall top m n op f p Every.none = Every.none
-meets-tall top m n op f p (Every.more {x = g} q r) = Every.more (meet-tall top m n op f g p q) (meets-tall top m n op f p r)
+joins-tall : (m n : ℕ) (op : Join) (f : Focal) → Tall m f → {gs : List Focal} → Every (Tall n) gs → Every (Tall (m + n)) (map (joinedFocal op f) gs)
+joins-tall m n op f p Every.none = Every.none
+joins-tall m n op f p (Every.more {x = g} q r) = Every.more (joined-tall m n op f g p q) (joins-tall m n op f p r)
 
-pub pairs-tall : (top m n : ℕ) (op : Join) {fs gs : List Focal} → Every (Tall top m) fs → Every (Tall top n) gs → Every (Tall top (m + n)) (pairs op fs gs)
-pairs-tall top m n op Every.none q = Every.none
-pairs-tall top m n op (Every.more {x = f} p r) q = every-append (meets-tall top m n op f p q) (pairs-tall top m n op r q)
+pub pairs-tall : (m n : ℕ) (op : Join) {fs gs : List Focal} → Every (Tall m) fs → Every (Tall n) gs → Every (Tall (m + n)) (pairs op fs gs)
+pairs-tall m n op Every.none q = Every.none
+pairs-tall m n op (Every.more {x = f} p r) q = every-append (joins-tall m n op f p q) (pairs-tall m n op r q)
 
-tall-at : (top : ℕ) {cs : List Component} → Every (λ c. Every (Tall top 1) (masses c)) cs → (i : ℕ) → Every (Tall top 1) (masses (getD cs i noComponent))
-tall-at top Every.none i = Every.none
-tall-at top (Every.more p r) zero = p
-tall-at top (Every.more p r) (suc i) = tall-at top r i
-
-tall-choicesOf : (top : ℕ) {cs : List Component} → Every (λ c. Every (Tall top 1) (masses c)) cs → (t : Tree) → Every (Tall top (length (leaves t))) (choicesOf cs t)
-tall-choicesOf top p (leaf i) = tall-at top p i
-tall-choicesOf top p (node op l r) =
-    rw (length-append (leaves l) (leaves r)) (pairs-tall top (length (leaves l)) (length (leaves r)) op (tall-choicesOf top p l) (tall-choicesOf top p r))
+tall-choicesOf : {cs : List Component} → Every (λ c. Every (Tall 1) (masses c)) cs → (t : Tree) → Every (Tall (length (leaves t))) (choicesOf cs t)
+tall-choicesOf p (leaf i) = every-getD (λ c. Every (Tall 1) (masses c)) noComponent Every.none p i
+tall-choicesOf p (node op l r) =
+    rw (length-append (leaves l) (leaves r)) (pairs-tall (length (leaves l)) (length (leaves r)) op (tall-choicesOf p l) (tall-choicesOf p r))
 
 -- what speaks only of the interval stays true of each
 every-collect : (P : Focal → Type 0) → ((f g : Focal) → P f → P g → P (merged f g))
@@ -120,5 +106,26 @@ every-collect : (P : Focal → Type 0) → ((f g : Focal) → P f → P g → P 
 every-collect P m Every.none = Every.none
 every-collect P m (Every.more {x = f} p r) = every-insert P m f p (every-collect P m r)
 
-pub tall-listOf : (top : ℕ) {cs : List Component} → Every (λ c. Every (Tall top 1) (masses c)) cs → (t : Tree) → Every (Tall top (length (leaves t))) (listOf cs t)
-tall-listOf top p t = every-collect (Tall top (length (leaves t))) (λ f g h k. record { upright = k .upright; below = k .below }) (tall-choicesOf top p t)
+pub tall-listOf : {cs : List Component} → Every (λ c. Every (Tall 1) (masses c)) cs → (t : Tree) → Every (Tall (length (leaves t))) (listOf cs t)
+tall-listOf p t = every-collect (Tall (length (leaves t))) (λ f g h k. record { upright = k .upright; below = k .below }) (tall-choicesOf p t)
+
+-- What is formed fits its place, of components in range whose totals are at most 1,000, under up to six leaves: a weight 64 bits, a speed
+-- 15, so that the speeds of a join fit 16.
+in-range-tall : {cs : List Component} → AllInRange cs → Every (λ c. Every (Tall 1) (masses c)) cs
+in-range-tall = every-map (λ c. every-map (λ f r. record { upright = r .upright; below = omega (arith, r .below) }))
+
+pub speeds-fit : {cs : List Component} → AllInRange cs → (t : Tree) → length (leaves t) ≤ 6 → Every (λ f. (f .low < 32768) × (f .high < 32768)) (listOf cs t)
+speeds-fit p t h = every-map (λ f r. (omega (arith, r .upright, r .below), omega (arith, r .below))) (tall-listOf (in-range-tall p) t)
+
+pub thousands : (a b m n : ℕ) → a ≤ 1000 ^ m → b ≤ 1000 ^ n → m + n ≤ 6 → a * b < 2 ^ 64
+thousands a b m n p q h =
+    let l : a * b ≤ 1000 ^ 6 = le-trans (mul-le-mul p q) (le-trans (le-of-eq (sym (pow-add 1000 m n))) (pow-le-pow-right (omega arith) h)) in
+    omega arith
+
+module _ {cs : List Component} (p : Every (λ c. c .total ≤ 1000) cs) (q : Balanced cs) where
+  pub product-fits : (l r : Tree) → length (leaves l) + length (leaves r) ≤ 6 → weights (listOf cs l) * weights (listOf cs r) < 2 ^ 64
+  product-fits l r h = rw (weights-listOf q l, weights-listOf q r) (thousands (totalOf cs l) (totalOf cs r) (length (leaves l)) (length (leaves r)) (totalOf-le p l) (totalOf-le p r) h)
+
+  pub weight-fits : (t : Tree) → length (leaves t) ≤ 6 → weights (listOf cs t) < 2 ^ 64
+  weight-fits t h =
+      rw (weights-listOf q t) (omega (arith, thousands (totalOf cs t) 1 (length (leaves t)) 0 (totalOf-le p t) (le-of-eq (sym (pow-zero 1000))) (omega arith)))

@@ -1,0 +1,4 @@
+-- The call: what it answers, and what the lent store then holds.
+pub mod Answer
+pub mod Store
+pub mod Stack

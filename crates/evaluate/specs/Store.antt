@@ -1,0 +1,28 @@
+-- What the store holds after a call: every byte of it, by the number. Assumes nothing.
+use Prim.Native.Nat.{ℕ, _-_, _*_}
+use mathlib.Core.Bool.{cond, _||_}
+use mathlib.Core.List.{List, _++_}
+use lib.Dec.{eqb}
+use lib.ListN.{length, drop, replicate}
+use Rattle.theory.specs.Focal.{Focal}
+use Rattle.lists.specs.Records.{recordBytes, encode}
+use Rattle.sheet.specs.Reading.{readOf}
+use Rattle.evaluate.specs.Answer.{storeBytes, planList, answer}
+
+-- accepted: the drive's list at the front, and zero up to the end of the working region
+abbrev pub filled : List Focal → List ℕ → List ℕ
+filled list store = encode list ++ (replicate (storeBytes - recordBytes * length list) 0 ++ drop storeBytes store)
+
+-- 13 and 14: the working region zero
+abbrev pub cleared : List ℕ → List ℕ
+cleared store = replicate storeBytes 0 ++ drop storeBytes store
+
+-- every other refusal: unchanged
+abbrev pub storeBy : ℕ → List Focal → List ℕ → List ℕ
+storeBy number list store =
+    cond (eqb number 0) (filled list store) (cond (eqb number 13 || eqb number 14) (cleared store) store)
+
+-- The store after a call. It does not depend on the demand.
+unfoldable pub storeAfter : List ℕ → ℕ → List ℕ → List ℕ
+storeAfter sheet allowance store =
+    storeBy ((answer sheet 0 allowance (length store)) .number) (planList ((readOf sheet) .plan)) store

@@ -1,0 +1,26 @@
+-- What a plan that keeps the rules 3, 4 and 6 to 11 has: all that the drive calculation asks of it. Assumes nothing.
+use Prim.Native.Nat.{ℕ, _+_, _*_, _≤_}
+use mathlib.Core.Path.{_≡_}
+use mathlib.Core.Bool.{true, false}
+use lib.ListN.{length}
+use Rattle.theory.specs.Sums.{Every}
+use Rattle.theory.specs.Focal.{masses, AllInRange, AllWeighty, Balanced}
+use Rattle.theory.specs.Structure.{joinsFindTwo, NamedOnce}
+use Rattle.theory.specs.Lists.{InOrder}
+use Rattle.sheet.specs.declared.Plan.{Plan}
+use Rattle.sheet.specs.Plan.{mostComponents, componentsOf, codesOf, entriesOf}
+use Rattle.sheet.specs.Rules.{badCode}
+
+pub record Kept (p : Plan) : Type 0 where
+  pub least : 1 ≤ p .count
+  pub most : p .count ≤ mostComponents
+  pub counts : Every (λ c. (1 ≤ c .count) × (c .count ≤ 8)) (componentsOf p)
+  pub totals : Every (λ c. (1 ≤ c .total) × (c .total ≤ 1000)) (componentsOf p)
+  pub inRange : AllInRange (componentsOf p)
+  pub weighty : AllWeighty (componentsOf p)
+  pub ordered : Every (λ c. InOrder (masses c)) (componentsOf p)
+  pub balanced : Balanced (componentsOf p)
+  pub codes : Every (λ code. badCode (p .count) code ≡ false) (codesOf p)
+  pub namedOnce : NamedOnce (p .count) (entriesOf p)
+  pub findTwo : joinsFindTwo (entriesOf p) 0 ≡ true
+  pub entries : length (entriesOf p) + 1 ≡ 2 * p .count
