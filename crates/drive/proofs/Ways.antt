@@ -1,6 +1,6 @@
 -- The two ways of the call for C hosts: the answer buffer is too short, or it holds an answer. Assumes nothing.
 use Prim.Native.Nat.{ℕ, _≤_, _<_}
-use mathlib.Core.Path.{_≡_, refl, ap, sym}
+use mathlib.Core.Path.{_≡_, refl}
 use mathlib.Core.Bool.{Bool, true, false, cond}
 use mathlib.Core.List.{List, _++_}
 use lib.Dec.{ltb}

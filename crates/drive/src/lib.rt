@@ -6,6 +6,9 @@ ghost use lib.ListN.{length, drop};
 ghost use Rattle.drive.specs.Call.{answerBytes, encodeAnswer, numberReturned, listAfter, replyAfter};
 use evaluate::Answer;
 
+// The bytes that an answer takes.
+const ANSWER: usize = 40;
+
 // Writes an answer at the front of a buffer that holds it.
 fn put_answer(a: Answer, reply: &mut [u8])
     requires { ⌜ answerBytes ≤ length (now reply) ⌝ }
@@ -32,7 +35,7 @@ pub extern "C" fn drive_bounds(
     ensures { λ _. ⌜ now (list .exit) ≡ listAfter (now (sheet .entry)) allowance (now (list .entry)) (now (answer .entry)) ⌝ }
     ensures { λ _. ⌜ now (answer .exit) ≡ replyAfter (now (sheet .entry)) demand allowance (now (list .entry)) (now (answer .entry)) ⌝ }
 {
-    if answer.len() < 40 {
+    if answer.len() < ANSWER {
         let a = evaluate::bounds(sheet, demand, allowance, &mut list[0..0]);
         return a.number as u32;
     }

@@ -1,19 +1,17 @@
 -- From a plan's run to the answer: the store as a whole, and the list read back from it. Assumes nothing.
-use Prim.Native.Nat.{ℕ, _+_, _-_, _*_, _^_, _≤_, _<_}
+use Prim.Native.Nat.{ℕ, _-_, _*_, _^_, _≤_, _<_}
 use mathlib.Core.Path.{_≡_, refl, sym, ap, _∙_}
 use mathlib.Core.Bool.{Bool, true, false, cond, _||_}
 use mathlib.Core.Logic.{_⊎_, inl, inr}
-use mathlib.Core.List.{List, [], _∷_, _++_, append-assoc}
-use native.Mathlib.Nat.{le-trans, pow-le-pow-right}
+use mathlib.Core.List.{List, [], _++_, append-assoc}
 use native.Mathlib.Omega.{arith}
 use lib.Dec.{eqb}
-use lib.ListN.{length, take, drop, replicate, take-append-drop, length-append, length-replicate, drop-of-length-le}
-use lib.Seq.{length-take-le, take-all}
-use Rattle.theory.specs.Sums.{sumBy, Every}
-use Rattle.theory.specs.Focal.{Focal, weights, total}
-use Rattle.theory.specs.Structure.{Tree, trees, leaves}
+use lib.ListN.{length, take, drop, replicate, take-append-drop, length-append, drop-of-length-le}
+use lib.Seq.{length-take-le}
+use Rattle.theory.specs.Sums.{Every}
+use Rattle.theory.specs.Focal.{Focal, weights}
+use Rattle.theory.specs.Structure.{Tree, leaves}
 use Rattle.theory.specs.Choices.{belief, plausibility}
-use Rattle.theory.specs.Lists.{driveList, listOf}
 use Rattle.theory.proofs.Lists.{belief-collect, plausibility-collect}
 use Rattle.theory.specs.Evaluation.{Evaluation, completed, refused}
 use Rattle.theory.proofs.Every.{every-map}
@@ -22,7 +20,6 @@ use Rattle.theory.proofs.Structure.{named-length, leafCount, run-leaves}
 use Rattle.theory.proofs.Totals.{speeds-fit, weight-fits}
 use Rattle.theory.proofs.Walk.{evaluate-refused}
 use Rattle.lists.specs.Records.{recordBytes, encode, records, Under}
-use Rattle.lists.specs.declared.Shares.{Shares}
 use Rattle.lists.specs.Building.{sharesOf}
 use Rattle.lists.proofs.Records.{length-encode, records-encode}
 use Rattle.sheet.specs.declared.Plan.{Plan}
@@ -74,9 +71,6 @@ module _ (s : List ℕ) (h : storeBytes ≤ length s) where
 
   none-left : drop storeBytes (take storeBytes s) ≡ []
   none-left = drop-of-length-le (take storeBytes s) {i = storeBytes} (omega (arith, length-take-le storeBytes s h))
-
-  pub region-size : length (take storeBytes s) ≡ storeBytes
-  region-size = length-take-le storeBytes s h
 
   -- what a call leaves of the region, with the bytes behind it, is what it leaves of the store
   pub whole-store : (number : ℕ) (l : List Focal) → storeBy number l (take storeBytes s) ++ drop storeBytes s ≡ storeBy number l s

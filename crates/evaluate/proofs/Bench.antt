@@ -1,7 +1,7 @@
 -- The rows P1 to P10 of the bench table, from the sheets' bytes, by computation on the definitions. Assumes nothing.
 use Prim.Native.Nat.{ℕ}
 use mathlib.Core.Path.{_≡_, refl}
-use mathlib.Core.List.{List, [], _∷_, _++_}
+use mathlib.Core.List.{List, [], _∷_}
 use Rattle.theory.specs.Focal.{Focal}
 use Rattle.field.specs.Bits.{bit, fieldAt}
 use Rattle.block.specs.Rows.{row}

@@ -1,19 +1,19 @@
 -- The cases of a call's answer: the sheet is refused, the store is too short, the plan is refused, or it is accepted. Assumes nothing.
-use Prim.Native.Nat.{ℕ, suc, _≤_, _<_}
+use Prim.Native.Nat.{ℕ, _≤_, _<_}
 use mathlib.Core.Path.{_≡_, refl, sym, ap, _∙_}
-use mathlib.Core.Bool.{Bool, true, false, cond}
+use mathlib.Core.Bool.{Bool, true, false}
 use mathlib.Core.List.{List}
 use native.Mathlib.Omega.{arith}
 use lib.Dec.{ltb, eqb}
 use lib.ListN.{length}
-use borrow.Author.Tests.{eqb-true, eqb-false, ltb-true, ltb-false, eq-eqb, ne-eqb, lt-ltb, le-ltb}
+use borrow.Author.Tests.{eqb-true, eqb-false, ltb-true, ltb-false, ne-eqb, lt-ltb, le-ltb}
 use Rattle.theory.specs.Structure.{Tree}
 use Rattle.theory.specs.Evaluation.{Evaluation, completed, refused}
 use Rattle.sheet.specs.declared.Plan.{Plan}
 use Rattle.sheet.specs.Reading.{readOf}
 use Rattle.evaluate.specs.declared.Answer.{Answer}
 use Rattle.evaluate.proofs.First.{sheet-number}
-use Rattle.evaluate.specs.Answer.{storeBytes, refusal, planList, acceptance, run, ended, answerOf, answer}
+use Rattle.evaluate.specs.Answer.{storeBytes, refusal, planList, acceptance, run, ended, answer}
 use Rattle.evaluate.specs.Store.{storeBy, storeAfter}
 
 -- Which of the four it is; nothing here depends on the demand.

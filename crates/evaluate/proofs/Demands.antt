@@ -1,16 +1,15 @@
 -- The three demands, as theorems about what the contracts of the call, the reader and the writer name: `answer`, `storeAfter`,
 -- `readOf`, `writtenOf`, `bytesAfter`. Assumes nothing.
-use Prim.Native.Nat.{ℕ, zero, suc, _+_, _*_, _≤_, _<_}
+use Prim.Native.Nat.{ℕ, _≤_, _<_}
 use mathlib.Core.Path.{_≡_, refl, sym, ap, subst, _∙_}
-use mathlib.Core.Bool.{Bool, true, false}
 use mathlib.Core.Logic.{_⊎_, inl, inr, _↔_}
 use mathlib.Core.List.{List, [], _∷_, _++_}
 use native.Mathlib.Omega.{arith}
 use lib.ListN.{length, take, drop}
 use borrow.Author.Tests.{ne-eqb}
 use Rattle.theory.specs.Sums.{Every}
-use Rattle.theory.specs.Focal.{Focal, weights, total, AllInRange, AllWeighty, Balanced}
-use Rattle.theory.specs.Structure.{Entry, NamedOnce, joinsFindTwo, Tree, trees}
+use Rattle.theory.specs.Focal.{weights, total}
+use Rattle.theory.specs.Structure.{Entry, Tree, trees}
 use Rattle.theory.specs.Choices.{outcomes, belief, plausibility}
 use Rattle.theory.specs.Lists.{InOrder, driveList}
 use Rattle.theory.specs.Evaluation.{pairCount, completed, refused}
@@ -30,7 +29,7 @@ use Rattle.sheet.specs.Kept.{Kept}
 use Rattle.sheet.proofs.Theorems.{read-keeps, written-is-read, read-is-written}
 use Rattle.field.specs.Bits.{Bytes}
 use Rattle.evaluate.specs.declared.Answer.{Answer}
-use Rattle.evaluate.specs.Answer.{storeBytes, refusal, planOutcomes, planList, acceptance, run, answer}
+use Rattle.evaluate.specs.Answer.{storeBytes, refusal, planList, acceptance, run, answer}
 use Rattle.evaluate.specs.Store.{filled, cleared, storeBy, storeAfter}
 use Rattle.evaluate.proofs.Ending.{left-by}
 use Rattle.evaluate.proofs.First.{Unbroken, First, sheet-kept, kept-sheet, sheet-broken}

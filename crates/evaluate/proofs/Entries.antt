@@ -1,17 +1,15 @@
 -- The entries of a plan one after the other: what the first i of them have named, joined and built. Assumes nothing.
-use Prim.Native.Nat.{ℕ, zero, suc, _+_, _-_, _*_, _≤_, _<_}
+use Prim.Native.Nat.{ℕ, zero, suc, _+_, _≤_, _<_}
 use mathlib.Core.Path.{_≡_, refl, sym, ap, _∙_}
 use mathlib.Core.Bool.{false, _&&_, _||_}
 use mathlib.Core.List.{List, [], _∷_, _++_, map}
 use native.Mathlib.Omega.{arith}
 use lib.Dec.{leb, ltb, eqb}
 use borrow.Author.Tests.{eqb-false, ltb-false, leb-false, lt-ltb, ne-eqb}
-use lib.ListN.{length, getD, take, drop, length-append, length-map, take-append-drop, List·getD-map}
-use lib.Seq.{take-suc, drop-cons}
+use lib.ListN.{length, getD, take, drop, length-map, take-append-drop}
 use Rattle.theory.specs.Sums.{countFrom}
 use Rattle.theory.specs.Structure.{Entry, component, join, step, run, named}
 use Rattle.theory.specs.Lists.{noComponent}
-use Rattle.theory.specs.declared.Component.{Component}
 use Rattle.theory.specs.declared.Join.{Join}
 use Rattle.sheet.specs.declared.Plan.{Plan}
 use Rattle.sheet.specs.Rules.{badCode}

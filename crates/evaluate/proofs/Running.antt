@@ -10,7 +10,7 @@ use lib.Dec.{ltb}
 use borrow.Author.Tests.{lt-ltb, le-ltb}
 use lib.ListN.{length, getD, set, take, drop, length-set, length-map, length-append}
 use lib.Seq.{take-suc, drop-cons, getD-set-same, getD-set-other}
-use Rattle.theory.specs.Sums.{sumBy, countFrom, Every}
+use Rattle.theory.specs.Sums.{countFrom, Every}
 use Rattle.theory.specs.Focal.{Focal, focalAt, masses, weights, InRange, Weighty}
 use Rattle.theory.specs.Structure.{Entry, component, join, step, run, named, joinsFindTwo, Tree, leaf, node, leaves}
 use Rattle.theory.specs.Lists.{InOrder, collect, joinLists, noComponent, listOf}
@@ -33,7 +33,7 @@ use Rattle.sheet.specs.Kept.{Kept}
 use Rattle.evaluate.specs.Answer.{storeBytes}
 use Rattle.evaluate.specs.declared.Stack.{Stack}
 use Rattle.evaluate.specs.Stack.{emptyStack, listAt, listsBelow, Apart, withList, pushed, pushedStore, left, right, spent}
-use Rattle.evaluate.proofs.Entries.{joinCount, counted, joins-append, named-append, run-append, joins-split, named-split, components-count, entries-count, codes-count, component-is, code-is, entry-is, length-count}
+use Rattle.evaluate.proofs.Entries.{joinCount, counted, joins-append, named-append, run-append, joins-split, named-split, entries-count, codes-count, component-is, code-is, entry-is, length-count}
 
 -- what is left to walk, on lists: the method
 abbrev pub walkLists : Plan → ℕ → List Entry → List (List Focal) → ℕ → Evaluation (List Focal)

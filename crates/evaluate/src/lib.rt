@@ -20,6 +20,9 @@ use sheet::Plan;
 use theory::Component;
 use theory::Join;
 
+// The bytes that a call needs of the store: its working region.
+const STORE: usize = 16384;
+
 // What a call answers: the number of the refusal and zeros, or 0, the total U, the two shares of it, the pairs formed and the length
 // of the drive's list.
 pub struct Answer {
@@ -176,7 +179,7 @@ fn run_plan(p: Plan, allowance: u32, region: &mut [u8]) -> Ran
         } else {
             let s = apply(join_of(code), stack, region, allowance);
             if s.number != 0 {
-                lists::clear(region, 0, 16384);
+                lists::clear(region, 0, STORE);
                 return Ran {
                     number: s.number,
                     pairs: 0,
@@ -190,7 +193,7 @@ fn run_plan(p: Plan, allowance: u32, region: &mut [u8]) -> Ran
     }
     let start = stack.starts[0];
     let count = stack.counts[0];
-    lists::settle(region, start, count, 16384);
+    lists::settle(region, start, count, STORE);
     Ran {
         number: 0,
         pairs: stack.pairs,
@@ -219,7 +222,7 @@ fn answer_plan(p: Plan, demand: u32, allowance: u32, store: &mut [u8]) -> Answer
     ensures { λ r. ⌜ r ≡ ended (run p allowance) p demand ⌝ }
     ensures { λ _. ⌜ now (store .exit) ≡ storeBy (ended (run p allowance) p demand .number) (planList p) (now (store .entry)) ⌝ }
 {
-    let r = run_plan(p, allowance, &mut store[0..16384]);
+    let r = run_plan(p, allowance, &mut store[0..STORE]);
     let number = r.number;
     if number != 0 {
         return refuse(number);
@@ -248,7 +251,7 @@ pub fn bounds(sheet: &[u8], demand: u32, allowance: u32, store: &mut [u8]) -> An
     if number != 0 {
         return refuse(number);
     }
-    if store.len() < 16384 {
+    if store.len() < STORE {
         return refuse(12);
     }
     let p = r.plan;

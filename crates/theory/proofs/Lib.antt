@@ -15,4 +15,3 @@ pub mod Ends
 pub mod Range
 pub mod Bounds
 pub mod Method
-pub mod Bench

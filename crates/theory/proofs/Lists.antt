@@ -7,14 +7,12 @@ use native.Mathlib.Nat.{mul-one}
 use native.Mathlib.Omega.{arith}
 use lib.ListN.{length, getD}
 use Rattle.theory.specs.Sums.{Every}
-use Rattle.theory.specs.Focal.{Focal, masses, weights, Weighty}
-use Rattle.theory.specs.Structure.{leaf}
+use Rattle.theory.specs.Focal.{Focal, weights, Weighty}
 use Rattle.theory.specs.Choices.{belief, plausibility}
-use Rattle.theory.specs.Lists.{order, Before, InOrder, merged, insertAt, insert, collect, noComponent, listOf}
-use Rattle.theory.specs.declared.Component.{Component}
+use Rattle.theory.specs.Lists.{order, Before, InOrder, merged, insertAt, insert, collect}
 use Rattle.theory.proofs.Sums.{sum-ext, sum-append}
 use Rattle.theory.proofs.Order.{Placed, placed, before-trans}
-use Rattle.theory.proofs.Collect.{weigh, weigh-collect, same-collect, belief-weigh, plausibility-weigh, before-all, collect-fixed}
+use Rattle.theory.proofs.Collect.{weigh, weigh-collect, same-collect, belief-weigh, plausibility-weigh, before-all}
 use Rattle.theory.proofs.Every.{every-append}
 
 never : (f g : Focal) → f .low ≡ g .low → f .high ≡ g .high → Before f g → ⊥
@@ -100,8 +98,3 @@ order-of-next z (f ∷ g ∷ gs) h = go (order-of-next z (g ∷ gs) (λ i p. h (
   where
     go : InOrder (g ∷ gs) → InOrder (f ∷ g ∷ gs)
     go (InOrder.more b r) = InOrder.more (before-all f g (h 0 (omega arith)) b) (InOrder.more b r)
-
--- so a component whose block is in order has its block for its list
-pub listOf-leaf : (cs : List Component) (i : ℕ) → InOrder (masses (getD cs i noComponent)) → Every Weighty (masses (getD cs i noComponent))
-    → listOf cs (leaf i) ≡ masses (getD cs i noComponent)
-listOf-leaf cs i o p = collect-fixed o p

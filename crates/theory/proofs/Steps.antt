@@ -8,7 +8,7 @@ use Rattle.theory.specs.Sums.{Every}
 use Rattle.theory.specs.Focal.{Focal, masses, Weighty, AllWeighty}
 use Rattle.theory.specs.Joins.{joined, joinedFocal, pairs}
 use Rattle.theory.specs.Structure.{Entry, component, join, step, run, Φ, Tree, leaf, node, trees}
-use Rattle.theory.specs.Lists.{collect, joinLists, noComponent, choicesOf, listOf}
+use Rattle.theory.specs.Lists.{collect, noComponent, choicesOf, listOf}
 use Rattle.theory.specs.Division.{speeds}
 use Rattle.theory.specs.declared.Component.{Component}
 use Rattle.theory.specs.declared.Join.{Join}
@@ -74,8 +74,3 @@ pub Φ-tree : (es : List Entry) (t : Tree) → trees es ≡ t ∷ [] → (v : Li
 Φ-tree es t e v =
     ap (λ (p : List ℕ). getD p 0 0) (sym (run-map (speedOf v) leaf node (λ i. getD v i 0) joined (λ i. refl) (λ op x y. refl) es []))
     ∙ ap (λ (p : List Tree). getD (map (speedOf v) p) 0 0) e
-
--- The run on lists, merging at each join, comes to the lists of the trees.
-pub run-lists : {cs : List Component} → AllWeighty cs → (es : List Entry)
-    → run (λ i. listOf cs (leaf i)) joinLists es [] ≡ map (listOf cs) (trees es)
-run-lists {cs} p es = sym (run-map (listOf cs) leaf node (λ i. listOf cs (leaf i)) joinLists (λ i. refl) (listOf-node p) es [])

@@ -1,10 +1,10 @@
 -- `drive::put_answer` meets its contract: each number goes behind those already written. Assumes nothing.
-use Prim.Native.Nat.{ℕ, _+_, _≤_}
-use mathlib.Core.Path.{_≡_, refl, sym, ap, ap₂, _∙_}
+use Prim.Native.Nat.{ℕ, _+_}
+use mathlib.Core.Path.{_≡_, refl, sym, ap, _∙_}
 use mathlib.Core.List.{List, [], _++_, append-assoc}
 use native.Mathlib.Omega.{arith}
 use lib.ListN.{length, take, drop, length-append}
-use lib.Seq.{take-at, drop-at, drop-append-add, drop-drop}
+use lib.Seq.{take-at, drop-append-add, drop-drop}
 use Rattle.lists.specs.Records.{bigEndian}
 use Rattle.drive.specs.Call.{encodeAnswer}
 use borrow.Author.Needs.{needs}

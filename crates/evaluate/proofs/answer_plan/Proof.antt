@@ -1,12 +1,8 @@
 -- `evaluate::answer_plan` meets its contract. Assumes nothing.
-use mathlib.Core.Path.{_≡_, refl, sym, ap, _∙_}
+use mathlib.Core.Path.{_≡_, sym, ap, _∙_}
 use mathlib.Core.List.{List, _++_}
-use Prim.Native.Nat.{ℕ, _≤_, _<_, _*_, _^_}
-use native.Mathlib.Omega.{arith}
-use lib.ListN.{length, drop}
-use Rattle.theory.specs.Focal.{Focal, weights}
-use Rattle.lists.specs.declared.Shares.{Shares}
-use Rattle.lists.specs.Records.{recordBytes, records}
+use Prim.Native.Nat.{ℕ}
+use lib.ListN.{drop}
 use Rattle.evaluate.specs.Answer.{storeBytes, planList, run, ended, ranOf}
 use Rattle.evaluate.specs.Store.{filled, storeBy}
 use Rattle.evaluate.specs.declared.Ran.{Ran}

@@ -1,17 +1,15 @@
 -- `evaluate::bounds` meets its contract: the four ways that a call can go. Assumes nothing.
 use mathlib.Core.Path.{_≡_, sym, ap, subst, _∙_}
 use mathlib.Core.List.{List}
-use Prim.Native.Nat.{ℕ, _≤_, _<_}
+use Prim.Native.Nat.{ℕ}
 use native.Mathlib.Omega.{arith}
-use lib.ListN.{length}
 use Rattle.sheet.specs.declared.Plan.{Plan}
 use Rattle.sheet.specs.declared.Reading.{Reading}
 use Rattle.sheet.specs.Kept.{Kept}
 use Rattle.sheet.specs.Reading.{readOf}
 use Rattle.sheet.proofs.Theorems.{read-keeps}
-use Rattle.evaluate.specs.declared.Answer.{Answer}
-use Rattle.evaluate.specs.Answer.{storeBytes, refusal, planList, run, ended, answer}
-use Rattle.evaluate.specs.Store.{storeBy, storeAfter}
+use Rattle.evaluate.specs.Answer.{refusal, planList, run, ended}
+use Rattle.evaluate.specs.Store.{storeBy}
 use Rattle.evaluate.proofs.Cases.{unread-call, short-call, run-call}
 use borrow.Author.Needs.{needs}
 use Rattle.evaluate.proofs.bounds.Statement.{statement}

@@ -1,5 +1,4 @@
 -- `evaluate::join_of` meets its contract. Assumes nothing.
-use Prim.Native.Nat.{ℕ}
 use mathlib.Core.Path.{_≡_, refl}
 use native.Mathlib.Omega.{arith}
 use Rattle.evaluate.proofs.join_of.Statement.{statement}

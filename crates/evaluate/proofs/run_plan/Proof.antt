@@ -1,6 +1,6 @@
-use Prim.Native.Nat.{ℕ, suc, _≤_, _<_, _-_}
+use Prim.Native.Nat.{ℕ, _≤_, _<_, _-_}
 use native.Mathlib.Numerals.{add-one}
-use mathlib.Core.Path.{_≡_, refl, sym, ap, _∙_}
+use mathlib.Core.Path.{_≡_, sym, ap, _∙_}
 use mathlib.Core.Bool.{false}
 use mathlib.Core.Logic.{⊎-elim}
 use native.Mathlib.Omega.{arith}
@@ -13,7 +13,7 @@ use Rattle.sheet.specs.Kept.{Kept}
 use Rattle.evaluate.specs.Answer.{storeBytes, planList}
 use Rattle.evaluate.proofs.Ending.{join-out, join-goes-on, join-stops, moved, finishes, in-region, clears, fills}
 use Rattle.evaluate.proofs.Entries.{code-component, code-join}
-use Rattle.evaluate.proofs.Running.{Running, starting, code-good, push-room, push-count, push-under, push-weighty, push-weights, push-next, join-room, join-under, join-weighty, join-weights, join-13, join-14, join-next}
+use Rattle.evaluate.proofs.Running.{Running, starting, code-good, push-room, push-count, push-under, push-weighty, push-weights, push-next, join-room, join-under, join-weighty, join-weights}
 use Rattle.evaluate.proofs.run_plan.Statement.{statement}
 use Rattle.evaluate.proofs.run_plan.Tie as tie
 use Rattle.evaluate.proofs.run_plan.Reads as reads

@@ -1,11 +1,10 @@
 -- `evaluate::total_of` meets its contract: the product so far times that of the components left is U. Assumes nothing.
-use Prim.Native.Nat.{ℕ, suc, _+_, _-_, _*_, _^_, _≤_, _<_}
-use mathlib.Core.Path.{_≡_, refl, sym, ap, _∙_}
-use mathlib.Core.List.{List, [], _∷_, map}
+use Prim.Native.Nat.{ℕ, _+_, _-_, _*_, _^_, _≤_, _<_}
+use mathlib.Core.Path.{_≡_, sym, ap, _∙_}
+use mathlib.Core.List.{List, map}
 use native.Mathlib.Nat.{mul-assoc, mul-one, one-mul, mul-le-mul, le-trans, le-of-eq, pow-zero, pow-suc}
 use native.Mathlib.Numerals.{add-one}
 use native.Mathlib.Omega.{arith}
-use lib.ListN.{length}
 use Rattle.theory.specs.Focal.{total}
 use Rattle.theory.specs.Lists.{noComponent}
 use Rattle.theory.specs.declared.Component.{Component}

@@ -1,0 +1,91 @@
+// The program: reads a demand, an allowance and a sheet from standard input, and prints the answer and the drive's list. What is read
+// and printed is open in the contracts of the functions that read and print: no contract can speak of it.
+use evaluate::Answer;
+use libc::STDIN_FILENO;
+use libc::STDOUT_FILENO;
+ghost use mathlib.Core.Path.{_≡_};
+ghost use Prim.Native.Nat.{_+_, _*_, _≤_, _<_};
+ghost use lib.ListN.{length};
+
+fn wide(x: u8) -> u32
+    ensures { λ r. ⌜ (r ≡ x) × (r < 256) ⌝ }
+{
+    x as u32
+}
+
+// Four bytes as a number, most significant first.
+fn number(a: u8, b: u8, c: u8, d: u8) -> u32
+    ensures { λ r. ⌜ r ≡ a * 16777216 + b * 65536 + c * 256 + d ⌝ }
+{
+    wide(a) * 16777216 + wide(b) * 65536 + wide(c) * 256 + wide(d)
+}
+
+// Reads once more. Answers whether the input may go on: a failed read counts as its end.
+fn skip_some() -> bool {
+    let mut rest = io::large_buffer();
+    0 < libc::read(STDIN_FILENO, &mut rest)
+}
+
+// Reads the input to its end, so that a writer of a pipe can finish.
+fn skip_rest() {
+    let mut left = u64::MAX;
+    while 0 < left && skip_some() {
+        left -= 1;
+    }
+}
+
+// Prints a word and a number behind it.
+fn print_field(word: &[u8], n: u64) {
+    io::write_all(STDOUT_FILENO, word);
+    io::print_decimal(STDOUT_FILENO, n);
+}
+
+fn print_answer(a: Answer) {
+    print_field(b"answer ", wide(a.number) as u64);
+    print_field(b" total ", a.total);
+    print_field(b" belief ", a.belief);
+    print_field(b" plausibility ", a.plausibility);
+    print_field(b" pairs ", a.pairs);
+    print_field(b" intervals ", a.intervals);
+    io::write_all(STDOUT_FILENO, b"\n");
+}
+
+// Prints the record at `at`: low, high and weight.
+fn print_record(store: &[u8], at: usize)
+    requires { ⌜ at + 12 ≤ length (now store) ⌝ }
+{
+    io::print_decimal(STDOUT_FILENO, lists::read_number(store, at, 2));
+    print_field(b" ", lists::read_number(store, at + 2, 2));
+    print_field(b" ", lists::read_number(store, at + 4, 8));
+    io::write_all(STDOUT_FILENO, b"\n");
+}
+
+// Prints the first `count` records, all of which lie in the store.
+fn print_list(store: &[u8], count: u64) {
+    let mut at = 0;
+    let mut left = count;
+    while 0 < left && at + 12 <= store.len() {
+        print_record(store, at);
+        at += 12;
+        left -= 1;
+    }
+}
+
+// A sheet has at most 255 bytes: with 256, as with more, it is refused whatever they are, so the rest of a longer input is not kept.
+fn main() {
+    let mut input = [0u8; 264];
+    let n = io::read_full(STDIN_FILENO, &mut input);
+    if n < 8 {
+        io::write_all(STDOUT_FILENO, b"input short\n");
+        return;
+    }
+    if n == 264 {
+        skip_rest();
+    }
+    let demand = number(input[0], input[1], input[2], input[3]);
+    let allowance = number(input[4], input[5], input[6], input[7]);
+    let mut store = [0u8; 16384];
+    let a = evaluate::bounds(&input[8..n], demand, allowance, &mut store);
+    print_answer(a);
+    print_list(&store, a.intervals);
+}

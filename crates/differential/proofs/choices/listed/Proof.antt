@@ -1,0 +1,16 @@
+-- `differential::choices::listed` meets its contract. The loop only drives the test: its invariant says nothing, and its measure is what is left of the turns.
+-- Assumes nothing.
+use borrow.Author.Needs.{needs}
+use Rattle.differential.proofs.choices.listed.Statement.{statement}
+use Rattle.differential.proofs.choices.listed.Tie as tie
+
+abbrev Inv-loop : tie.InvT-loop
+Inv-loop _ _ _ _ _ _ _ _ _ _ _ = Unit {0}
+
+abbrev μ-loop : tie.MeasureT-loop
+μ-loop _ _ _ _ _ _ _ _ _ _ left = left
+
+pub listed-spec : {M : Type 1} → statement M
+listed-spec =
+    tie.close
+    (tie.spec Inv-loop μ-loop (λ c κs. search needs) (λ c. search needs) (λ c. search needs) (λ c κs. search needs) (λ c. search needs) (λ c. search needs) (λ c. search needs) (λ c. search needs) (λ c κs. search needs) (λ c. search needs) (λ c. search needs) (λ c. search needs) (λ c. search needs))

@@ -1,0 +1,152 @@
+/* Times the call against the same job in plain C, in turns. bench check: only that both give the same. */
+#include "../tests/common.h"
+
+#include <time.h>
+
+#include "../bench/plain.h"
+
+enum { TURNS = 301, TURN_NS = 400000 };
+
+struct bench {
+    const char *name;
+    struct sheet sheet;
+};
+
+static uint8_t list[DRIVE_LIST_BYTES], answer[DRIVE_ANSWER_BYTES];
+static uint8_t plain_list[DRIVE_LIST_BYTES], plain_answer[DRIVE_ANSWER_BYTES];
+
+static uint32_t call(bounds_fn *f, const struct sheet *s) {
+    return f(s->bytes, s->length, 7, DRIVE_PAIRS_MAX, list, sizeof list, answer, sizeof answer);
+}
+
+/* The pair count of the sheet; both must answer alike, and accept. */
+static uint64_t same_answers(const struct bench *b) {
+    const struct sheet *s = &b->sheet;
+    uint32_t x, y;
+    memset(list, 1, sizeof list);
+    memset(plain_list, 2, sizeof plain_list);
+    x = call(drive_bounds, s);
+    y = plain_bounds(s->bytes, s->length, 7, DRIVE_PAIRS_MAX, plain_list, sizeof plain_list, plain_answer, sizeof plain_answer);
+    if (x != 0 || y != 0 || memcmp(list, plain_list, sizeof list) != 0 || memcmp(answer, plain_answer, sizeof answer) != 0) {
+        printf("FAILED %s: numbers %u and %u, or other bytes\n", b->name, x, y);
+        exit(1);
+    }
+    return drive_read_answer(answer).pairs;
+}
+
+static double now(void) {
+    struct timespec t;
+    clock_gettime(CLOCK_MONOTONIC, &t);
+    return (double)t.tv_sec * 1e9 + (double)t.tv_nsec;
+}
+
+/* One turn: nanoseconds a call. */
+static double turn(bounds_fn *f, const struct sheet *s, unsigned calls) {
+    double start = now();
+    for (unsigned i = 0; i < calls; i++) call(f, s);
+    return (now() - start) / calls;
+}
+
+static int by_value(const void *x, const void *y) {
+    double a = *(const double *)x, b = *(const double *)y;
+    return (a > b) - (a < b);
+}
+
+static double median(double *values) {
+    qsort(values, TURNS, sizeof *values, by_value);
+    return values[TURNS / 2];
+}
+
+/* Turns alternate, and so does who begins, so that the machine's drift meets both alike. */
+static void time_both(const struct sheet *s, double *drive, double *plain) {
+    static double drive_turns[TURNS], plain_turns[TURNS];
+    double once = turn(plain_bounds, s, 20);
+    unsigned calls = 1 + (unsigned)(TURN_NS / once);
+    for (unsigned i = 0; i < TURNS; i++) {
+        if (i % 2 == 0) drive_turns[i] = turn(drive_bounds, s, calls);
+        plain_turns[i] = turn(plain_bounds, s, calls);
+        if (i % 2 != 0) drive_turns[i] = turn(drive_bounds, s, calls);
+    }
+    *drive = median(drive_turns);
+    *plain = median(plain_turns);
+}
+
+static struct bench bench_of(const char *name, struct plan p) {
+    struct bench b;
+    b.name = name;
+    b.sheet = make_sheet(&p);
+    return b;
+}
+
+/* Two joysticks, one the spare of the other, and a controller in series; two motors that drive together; both in series. */
+static struct plan chair(void) {
+    static const struct component c[5] = {
+        {1000, 3, {{0, 0, 12}, {300, 900, 188}, {850, 1700, 800}}},
+        {1000, 3, {{0, 0, 25}, {200, 800, 375}, {700, 1500, 600}}},
+        {500, 4, {{0, 0, 3}, {0, 400, 17}, {400, 1200, 180}, {1100, 1700, 300}}},
+        {1000, 4, {{0, 0, 8}, {0, 500, 42}, {300, 700, 350}, {650, 850, 600}}},
+        {1000, 4, {{0, 0, 9}, {0, 500, 51}, {300, 700, 340}, {650, 850, 600}}},
+    };
+    static const uint8_t entry[] = {0, 1, SPARE, 2, SERIES, 3, 4, SHARED, SERIES};
+    return make_plan(5, c, entry);
+}
+
+/* Two lists of x times y single speeds each, in series: the pairs of the last join grow with the product of their lengths. */
+static struct plan grown(unsigned x, unsigned y) {
+    struct plan p = two_groups(1, SERIES);
+    p.component[0] = p.component[3] = speeds(x, 1);
+    p.component[1] = p.component[4] = speeds(8, x);
+    p.component[2] = p.component[5] = speeds(y, 8 * x);
+    return p;
+}
+
+int main(int argc, char **argv) {
+    const struct bench rows[] = {
+        bench_of("W, two modules", two(W0, W1, SERIES)),
+        bench_of("chair, five modules", chair()),
+        bench_of("256 intervals", three(4)),
+        bench_of("128 and 128, shared", two_groups(2, SHARED)),
+        bench_of("widest, six modules", widest()),
+    };
+    const struct bench growth[] = {
+        bench_of("8 and 8", grown(1, 1)),   bench_of("16 and 16", grown(2, 1)),  bench_of("32 and 32", grown(4, 1)),
+        bench_of("64 and 64", grown(8, 1)), bench_of("128 and 128", grown(8, 2)), bench_of("256 and 256", grown(8, 4)),
+    };
+    enum { ROWS = sizeof rows / sizeof *rows, GROWTH = sizeof growth / sizeof *growth };
+    double drive, plain, before = 0;
+    uint64_t pairs_before = 0;
+    int check = argc == 2 && strcmp(argv[1], "check") == 0;
+    if (argc > 1 && !check) {
+        fprintf(stderr, "usage: bench [check]\n");
+        return 2;
+    }
+    for (unsigned i = 0; i < ROWS; i++) same_answers(&rows[i]);
+    for (unsigned i = 0; i < GROWTH; i++) same_answers(&growth[i]);
+    if (check) {
+        printf("ok C: the sheets of the bench get the same answers from the call and from plain C\n");
+        return 0;
+    }
+
+    printf("Nanoseconds a call, the median of %d turns of about %d microseconds each. The turns of the call and of plain C alternate.\n"
+           "The buffers are not cleared between calls; both write all 16,384 bytes of the list and 40 of the answer.\n\n",
+           TURNS, TURN_NS / 1000);
+    printf("%-22s %9s %11s %11s %7s\n", "sheet", "pairs", "call", "plain C", "ratio");
+    for (unsigned i = 0; i < ROWS; i++) {
+        uint64_t pairs = same_answers(&rows[i]);
+        time_both(&rows[i].sheet, &drive, &plain);
+        printf("%-22s %9llu %11.0f %11.0f %7.2f\n", rows[i].name, (unsigned long long)pairs, drive, plain, drive / plain);
+    }
+
+    printf("\nGrowth with the pair count: two lists of single speeds in series; ns for each pair more than in the line before\n\n");
+    printf("%-22s %9s %11s %11s %7s %12s\n", "lists", "pairs", "call", "plain C", "ratio", "call, ns/pair");
+    for (unsigned i = 0; i < GROWTH; i++) {
+        uint64_t pairs = same_answers(&growth[i]);
+        time_both(&growth[i].sheet, &drive, &plain);
+        printf("%-22s %9llu %11.0f %11.0f %7.2f", growth[i].name, (unsigned long long)pairs, drive, plain, drive / plain);
+        if (i > 0) printf(" %13.2f", (drive - before) / (double)(pairs - pairs_before));
+        printf("\n");
+        before = drive;
+        pairs_before = pairs;
+    }
+    return 0;
+}

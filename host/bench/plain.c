@@ -1,0 +1,241 @@
+/* The drive calculation in plain C: structs in memory, binary search, memmove. What the bench compares with, and the tests too. */
+#include "plain.h"
+
+#include <string.h>
+
+enum {
+    COMPONENTS = 6,
+    FOCALS = 8,
+    ENTRIES = 2 * COMPONENTS - 1,
+    INTERVALS = 256,
+    RECORD_BYTES = 12,
+    LIST_BYTES = 16384,
+    ANSWER_BYTES = 40
+};
+
+/* An interval with its weight. The key is low in the upper 16 bits and high in the lower 16, so that keys stand in list order. */
+struct focal {
+    uint32_t key;
+    uint64_t weight;
+};
+
+struct component {
+    unsigned count, total;
+    struct focal focal[FOCALS];
+};
+
+struct plan {
+    unsigned components, entries;
+    struct component component[COMPONENTS];
+    uint8_t entry[ENTRIES];
+};
+
+struct list {
+    unsigned count;
+    struct focal focal[INTERVALS];
+};
+
+/* Fields of bits, most significant first. */
+struct bits {
+    const uint8_t *bytes;
+    size_t at;
+};
+
+static unsigned take(struct bits *b, unsigned width) {
+    size_t end = b->at + width, last = (end + 7) / 8;
+    uint64_t window = 0;
+    for (size_t i = b->at / 8; i < last; i++) window = window << 8 | b->bytes[i];
+    b->at = end;
+    return (unsigned)(window >> (last * 8 - end)) & ((1u << width) - 1);
+}
+
+static size_t block_bytes(unsigned count) { return (16 + 34 * (size_t)count + 7) / 8; }
+
+/* A fault of the sheet counts where no fault with a lower number is known. */
+static void fault_if(unsigned *fault, unsigned number, int condition) {
+    if (condition && (*fault == 0 || number < *fault)) *fault = number;
+}
+
+static void read_component(struct bits *b, struct component *c, unsigned *fault) {
+    unsigned sum = 0;
+    c->count = take(b, 4);
+    fault_if(fault, 5, take(b, 2) != 0);
+    c->total = take(b, 10);
+    fault_if(fault, 6, c->total < 1 || c->total > 1000);
+    for (unsigned i = 0; i < c->count; i++) {
+        unsigned low = take(b, 12), high = take(b, 12), weight = take(b, 10);
+        struct focal f = {low << 16 | high, weight};
+        fault_if(fault, 7, low > high || weight == 0 || (i > 0 && f.key <= c->focal[i - 1].key));
+        c->focal[i] = f;
+        sum += weight;
+    }
+    fault_if(fault, 8, sum != c->total);
+    if (b->at % 8 != 0) fault_if(fault, 5, take(b, 8 - (unsigned)(b->at % 8)) != 0);
+}
+
+static void read_structure(struct bits *b, struct plan *p, unsigned *fault) {
+    unsigned named = 0, depth = 0;
+    p->entries = 2 * p->components - 1;
+    for (unsigned i = 0; i < p->entries; i++) {
+        unsigned e = p->entry[i] = (uint8_t)take(b, 4);
+        if (e < p->components) {
+            fault_if(fault, 10, named >> e & 1);
+            named |= 1u << e;
+            depth++;
+        } else if (e >= 8 && e <= 10) {
+            fault_if(fault, 11, depth < 2);
+            depth -= depth >= 2;
+        } else {
+            fault_if(fault, 9, 1);
+        }
+    }
+    fault_if(fault, 10, named != (1u << p->components) - 1);
+    fault_if(fault, 5, take(b, 4) != 0);
+}
+
+/* Refusals 1 to 11, or 0 and the plan. */
+static unsigned read_sheet(const uint8_t *sheet, size_t length, struct plan *p) {
+    struct bits b = {sheet, 0};
+    if (length < 2 || sheet[1] != length) return 1;
+    if (take(&b, 4) != 1) return 2;
+    p->components = take(&b, 4);
+    if (p->components < 1 || p->components > COMPONENTS) return 3;
+
+    size_t at = 2;
+    for (unsigned i = 0; i < p->components; i++) {
+        if (at >= length) return 4;
+        unsigned count = sheet[at] >> 4;
+        if (count < 1 || count > FOCALS) return 4;
+        at += block_bytes(count);
+    }
+    if (at + p->components != length) return 4;
+
+    unsigned fault = 0;
+    b.at = 16;
+    for (unsigned i = 0; i < p->components; i++) read_component(&b, &p->component[i], &fault);
+    read_structure(&b, p, &fault);
+    return fault;
+}
+
+/* Adds f to a list in ascending order; 0 where the list is full. */
+static int insert(struct list *l, struct focal f) {
+    unsigned from = 0, to = l->count;
+    while (from < to) {
+        unsigned middle = (from + to) / 2;
+        if (l->focal[middle].key < f.key)
+            from = middle + 1;
+        else
+            to = middle;
+    }
+    if (from < l->count && l->focal[from].key == f.key) {
+        l->focal[from].weight += f.weight;
+        return 1;
+    }
+    if (l->count == INTERVALS) return 0;
+    memmove(&l->focal[from + 1], &l->focal[from], (l->count - from) * sizeof f);
+    l->focal[from] = f;
+    l->count++;
+    return 1;
+}
+
+static unsigned smaller(unsigned x, unsigned y) { return x < y ? x : y; }
+static unsigned larger(unsigned x, unsigned y) { return x > y ? x : y; }
+
+/* Lows and highs are joined separately. */
+static uint32_t join_keys(unsigned entry, uint32_t x, uint32_t y) {
+    switch (entry) {
+    case 8: return smaller(x >> 16, y >> 16) << 16 | smaller(x & 0xFFFF, y & 0xFFFF);
+    case 9: return x + y;
+    default: return larger(x >> 16, y >> 16) << 16 | larger(x & 0xFFFF, y & 0xFFFF);
+    }
+}
+
+/* The join of two lists; 0 where it has too many intervals. */
+static int join(unsigned entry, const struct list *x, const struct list *y, struct list *out) {
+    out->count = 0;
+    for (unsigned i = 0; i < x->count; i++) {
+        for (unsigned j = 0; j < y->count; j++) {
+            struct focal f = {join_keys(entry, x->focal[i].key, y->focal[j].key), x->focal[i].weight * y->focal[j].weight};
+            if (!insert(out, f)) return 0;
+        }
+    }
+    return 1;
+}
+
+/* Runs the structure on a stack of lists: refusals 13 and 14, or 0, the drive's list and the pair count. */
+static unsigned run(const struct plan *p, uint32_t allowance, struct list lists[COMPONENTS + 1], const struct list **drive,
+                    uint64_t *pairs) {
+    struct list *stack[COMPONENTS + 1]; /* the lists on the stack, then the free ones */
+    unsigned depth = 0;
+    for (unsigned i = 0; i <= COMPONENTS; i++) stack[i] = &lists[i];
+    *pairs = 0;
+    for (unsigned i = 0; i < p->entries; i++) {
+        unsigned e = p->entry[i];
+        if (e < COMPONENTS) {
+            const struct component *c = &p->component[e];
+            stack[depth]->count = c->count;
+            memcpy(stack[depth]->focal, c->focal, c->count * sizeof c->focal[0]);
+            depth++;
+        } else {
+            struct list *x = stack[depth - 2], *out = stack[depth];
+            const struct list *y = stack[depth - 1];
+            *pairs += (uint64_t)x->count * y->count;
+            if (*pairs > allowance) return 13;
+            if (!join(e, x, y, out)) return 14;
+            stack[depth] = x;
+            stack[depth - 2] = out;
+            depth--;
+        }
+    }
+    *drive = stack[0];
+    return 0;
+}
+
+static uint8_t *put32(uint8_t *out, uint32_t value) {
+    out[0] = (uint8_t)(value >> 24);
+    out[1] = (uint8_t)(value >> 16);
+    out[2] = (uint8_t)(value >> 8);
+    out[3] = (uint8_t)value;
+    return out + 4;
+}
+
+static uint8_t *put64(uint8_t *out, uint64_t value) {
+    return put32(put32(out, (uint32_t)(value >> 32)), (uint32_t)value);
+}
+
+uint32_t plain_bounds(const uint8_t *sheet, size_t sheet_length, uint32_t demand, uint32_t allowance, uint8_t *list,
+                      size_t list_length, uint8_t *answer, size_t answer_length) {
+    struct plan plan;
+    struct list lists[COMPONENTS + 1];
+    const struct list *drive;
+    uint64_t pairs, total = 1, belief = 0, plausibility = 0;
+
+    unsigned number = read_sheet(sheet, sheet_length, &plan);
+    if (answer_length < ANSWER_BYTES) return number != 0 ? number : 12;
+    if (number == 0 && list_length < LIST_BYTES) number = 12;
+    if (number == 0) {
+        number = run(&plan, allowance, lists, &drive, &pairs);
+        if (number != 0) memset(list, 0, LIST_BYTES);
+    }
+    if (number != 0) {
+        memset(answer, 0, ANSWER_BYTES);
+        return number;
+    }
+
+    uint8_t *out = list;
+    for (unsigned i = 0; i < drive->count; i++) {
+        struct focal f = drive->focal[i];
+        if (f.key >> 16 >= demand) belief += f.weight;
+        if ((f.key & 0xFFFF) >= demand) plausibility += f.weight;
+        out = put32(out, f.key);
+        out = put64(out, f.weight);
+    }
+    memset(out, 0, LIST_BYTES - drive->count * RECORD_BYTES);
+    for (unsigned i = 0; i < plan.components; i++) total *= plan.component[i].total;
+    out = put64(answer, total);
+    out = put64(out, belief);
+    out = put64(out, plausibility);
+    out = put64(out, pairs);
+    put64(out, drive->count);
+    return 0;
+}

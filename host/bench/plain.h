@@ -1,0 +1,16 @@
+/* The same job as drive_bounds in plain C: the same parameters, the same numbers, the same bytes. */
+#ifndef PLAIN_H
+#define PLAIN_H
+
+#include <stddef.h>
+#include <stdint.h>
+
+#ifdef __cplusplus
+extern "C" {
+#endif
+uint32_t plain_bounds(const uint8_t *sheet, size_t sheet_length, uint32_t demand, uint32_t allowance, uint8_t *list,
+                      size_t list_length, uint8_t *answer, size_t answer_length);
+#ifdef __cplusplus
+}
+#endif
+#endif

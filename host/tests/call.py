@@ -1,0 +1,194 @@
+"""The call from Python, against the sum over all choices of one interval per component.
+
+call.py LIBRARY: the archive as a shared library.
+"""
+import ctypes
+import itertools
+import random
+import sys
+from collections import Counter
+from math import prod
+
+LIST_BYTES, ANSWER_BYTES, PAIRS_MAX = 16384, 40, 66688
+SERIES, SHARED, SPARE = 8, 9, 10
+JOIN = {SERIES: min, SHARED: lambda x, y: x + y, SPARE: max}
+
+drive_bounds = ctypes.CDLL(sys.argv[1]).drive_bounds
+drive_bounds.restype = ctypes.c_uint32
+drive_bounds.argtypes = [
+    ctypes.c_char_p, ctypes.c_size_t, ctypes.c_uint32, ctypes.c_uint32,
+    ctypes.c_char_p, ctypes.c_size_t, ctypes.c_char_p, ctypes.c_size_t,
+]
+
+
+def call(sheet, demand, allowance, list_length=LIST_BYTES, answer_length=ANSWER_BYTES):
+    """The number, the five answers and the list; the buffers are 16 bytes longer than the call is told."""
+    buffers = [ctypes.create_string_buffer(b"\xee" * (n + 16), n + 16) for n in (list_length, answer_length)]
+    number = drive_bounds(sheet, len(sheet), demand, allowance, buffers[0], list_length, buffers[1], answer_length)
+    store, answer = (b.raw for b in buffers)
+    assert store[list_length:] == answer[answer_length:] == b"\xee" * 16, "bytes behind a buffer"
+    return number, store[:list_length], answer[:answer_length]
+
+
+def make_sheet(components, entries):
+    """components: (T, [(low, high, weight), ...]) each."""
+    body = b""
+    for total, focal in components:
+        bits = f"{len(focal):04b}00{total:010b}" + "".join(f"{low:012b}{high:012b}{weight:010b}" for low, high, weight in focal)
+        bits += "0" * (-len(bits) % 8)
+        body += int(bits, 2).to_bytes(len(bits) // 8, "big")
+    body += bytes.fromhex("".join(f"{e:x}" for e in entries) + "0")
+    return bytes([0x10 | len(components), len(body) + 2]) + body
+
+
+def blocks_of(sheet, n):
+    """The bits of each block and of the structure; None where number 4 applies."""
+    at, blocks = 2, []
+    for _ in range(n):
+        if at >= len(sheet) or not 1 <= sheet[at] >> 4 <= 8:
+            return None
+        size = 2 + -(-34 * (sheet[at] >> 4) // 8)
+        blocks.append("".join(f"{byte:08b}" for byte in sheet[at : at + size]))
+        at += size
+    if len(sheet) - at != n:
+        return None
+    return blocks, sheet[at:].hex()
+
+
+def read_sheet(sheet):
+    """A number from 1 to 11, or 0 and the components and entries; each rule looks at the whole sheet before the next."""
+    if len(sheet) < 2 or sheet[1] != len(sheet):
+        return 1, None
+    if sheet[0] >> 4 != 1:
+        return 2, None
+    n = sheet[0] & 15
+    if not 1 <= n <= 6:
+        return 3, None
+    if (parts := blocks_of(sheet, n)) is None:
+        return 4, None
+    blocks, structure = parts
+    components = []
+    for bits in blocks:
+        fields = [bits[16 + 34 * i : 50 + 34 * i] for i in range(int(bits[:4], 2))]
+        components.append((int(bits[6:16], 2), [(int(f[:12], 2), int(f[12:24], 2), int(f[24:], 2)) for f in fields]))
+    entries = [int(digit, 16) for digit in structure[:-1]]
+    named = sorted(e for e in entries if e < 8)
+    depths = list(itertools.accumulate(1 if e < 8 else -1 for e in entries))
+    rules = [
+        (5, all(b[4:6] == "00" and "1" not in b[16 + 34 * len(f) :] for b, (_, f) in zip(blocks, components)) and structure[-1] == "0"),
+        (6, all(1 <= total <= 1000 for total, _ in components)),
+        (7, all(low <= high and weight > 0 for _, f in components for low, high, weight in f)
+            and all(x[:2] < y[:2] for _, f in components for x, y in zip(f, f[1:]))),
+        (8, all(sum(weight for _, _, weight in f) == total for total, f in components)),
+        (9, all(e < n or e in JOIN for e in entries)),
+        (10, named == list(range(n))),
+        (11, min(depths) >= 1),
+    ]
+    number = next((number for number, met in rules if not met), 0)
+    return number, (components, entries)
+
+
+def joined(entries, speeds):
+    """The structure on one speed for each component."""
+    stack = []
+    for e in entries:
+        if e in JOIN:
+            y, x = stack.pop(), stack.pop()
+            stack.append(JOIN[e](x, y))
+        else:
+            stack.append(speeds[e])
+    return stack[0]
+
+
+def late_refusal(components, entries, allowance):
+    """13, 14 or 0, and the pair count: the intervals of each list, without weights."""
+    stack, pairs = [], 0
+    for e in entries:
+        if e not in JOIN:
+            stack.append({(low, high) for low, high, _ in components[e][1]})
+            continue
+        y, x = stack.pop(), stack.pop()
+        pairs += len(x) * len(y)
+        if pairs > allowance:
+            return 13, 0
+        stack.append({(JOIN[e](a, c), JOIN[e](b, d)) for a, b in x for c, d in y})
+        if len(stack[-1]) > 256:
+            return 14, 0
+    return 0, pairs
+
+
+def expected(sheet, demand, allowance):
+    """The number, the five answers and the list, from the sum over all choices."""
+    number, plan = read_sheet(sheet)
+    if number == 0:
+        components, entries = plan
+        number, pairs = late_refusal(components, entries, allowance)
+    if number != 0:
+        return number, [0] * 5, []
+    outcomes = Counter()
+    for choice in itertools.product(*(focal for _, focal in components)):
+        lows, highs, weights = zip(*choice)
+        outcomes[joined(entries, lows), joined(entries, highs)] += prod(weights)
+    total = prod(total for total, _ in components)
+    belief = sum(weight for (low, _), weight in outcomes.items() if low >= demand)
+    plausibility = sum(weight for (_, high), weight in outcomes.items() if high >= demand)
+    records = sorted((low, high, weight) for (low, high), weight in outcomes.items())
+    return 0, [total, belief, plausibility, pairs, len(records)], records
+
+
+def compare(sheet, demand, allowance):
+    number, answers, records = expected(sheet, demand, allowance)
+    store = b"".join(low.to_bytes(2, "big") + high.to_bytes(2, "big") + weight.to_bytes(8, "big") for low, high, weight in records)
+    store = store.ljust(LIST_BYTES, b"\0") if number in (0, 13, 14) else b"\xee" * LIST_BYTES
+    answer = b"".join(value.to_bytes(8, "big") for value in answers)
+    got = call(sheet, demand, allowance)
+    assert got[0] == number, f"number {got[0]}, not {number}, on {sheet.hex()}"
+    assert got[1:] == (store, answer), f"other bytes at demand {demand}, allowance {allowance} on {sheet.hex()}"
+    return number
+
+
+def random_sheet(r):
+    """A sheet with few choices: valid, or with another T, other entries or some bits changed."""
+    n, fastest, components = r.randint(1, 6), r.choice([3, 20, 300, 4095]), []
+    for _ in range(n):
+        ends = {tuple(sorted((r.randint(0, fastest), r.randint(0, fastest)))) for _ in range(r.randint(1, 8 if n < 4 else 4))}
+        weights = [r.randint(1, 120) for _ in ends]
+        components.append((sum(weights), [(low, high, w) for (low, high), w in zip(sorted(ends), weights)]))
+    names, entries, depth = r.sample(range(n), n), [], 0
+    while names or depth > 1:
+        if names and (depth < 2 or r.random() < 0.5):
+            entries.append(names.pop())
+            depth += 1
+        else:
+            entries.append(r.choice([SERIES, SHARED, SPARE]))
+            depth -= 1
+    if r.random() < 0.03:
+        components[0] = (r.choice([0, 1001, 1023]), components[0][1])
+    if r.random() < 0.05:
+        r.shuffle(entries)
+    sheet = bytearray(make_sheet(components, entries))
+    for _ in range(r.choice([0, 0, 0, 1, 1, 2])):
+        sheet[r.randrange(len(sheet))] ^= 1 << r.randrange(8)
+    return bytes(sheet)
+
+
+def main():
+    w = make_sheet([(100, [(0, 4, 20), (3, 8, 67), (7, 10, 13)]), (100, [(0, 6, 67), (8, 10, 33)])], [0, 1, SERIES])
+    assert expected(w, 7, 6) == (0, [10000, 429, 2640, 6, 4], [(0, 4, 2000), (0, 6, 5360), (3, 8, 2211), (7, 10, 429)])
+    compare(w, 7, 6)
+    for list_length, answer_length in [(0, 0), (LIST_BYTES - 1, ANSWER_BYTES), (LIST_BYTES, ANSWER_BYTES - 1), (0, ANSWER_BYTES)]:
+        answer = bytes(ANSWER_BYTES) if answer_length == ANSWER_BYTES else b"\xee" * answer_length
+        assert call(w, 7, 6, list_length, answer_length) == (12, b"\xee" * list_length, answer), "short buffers"
+    assert drive_bounds(None, 0, 0, 0, None, 0, None, 0) == 1 and drive_bounds(w, len(w), 0, 0, None, 0, None, 0) == 12, "null"
+    print("ok Python: one sheet, short buffers, null pointers")
+
+    r, met = random.Random(20), Counter()
+    for _ in range(8000):
+        sheet = random_sheet(r)
+        met[compare(sheet, r.choice([r.randint(0, 30), r.randint(0, 5000)]), r.choice([PAIRS_MAX, r.randint(0, 60)]))] += 1
+    missing = set(range(15)) - {12} - set(met)
+    assert not missing, f"numbers never met: {missing}"
+    print(f"ok Python: {sum(met.values())} random sheets against the sum over all choices")
+
+
+main()

@@ -1,0 +1,207 @@
+/* Shared by the tests and the bench: sheets from plans, buffers with fences, and one line for each test. */
+#ifndef COMMON_H
+#define COMMON_H
+
+#ifndef _GNU_SOURCE
+#define _GNU_SOURCE /* anonymous memory, stacks of threads */
+#endif
+#include <stdio.h>
+#include <stdlib.h>
+#include <string.h>
+#include <sys/mman.h>
+#include <unistd.h>
+
+#include "drive.h"
+
+/* The signature of drive_bounds, for what is called in its place. */
+typedef uint32_t bounds_fn(const uint8_t *, size_t, uint32_t, uint32_t, uint8_t *, size_t, uint8_t *, size_t);
+
+enum { COMPONENTS = 6, FOCALS = 8, ENTRIES = 2 * COMPONENTS - 1, SERIES = 8, SHARED = 9, SPARE = 10, SHEET_ROOM = 300 };
+
+/* What a sheet says, as values. Places of a component and entries that are not used stay out of the sheet. */
+struct focal {
+    unsigned low, high, weight;
+};
+struct component {
+    unsigned total, count;
+    struct focal focal[FOCALS];
+};
+struct plan {
+    unsigned components;
+    struct component component[COMPONENTS];
+    uint8_t entry[ENTRIES];
+};
+struct sheet {
+    size_t length;
+    uint8_t bytes[SHEET_ROOM];
+};
+
+/* Appends a field to a sheet that is zero from bit `at` on. */
+static inline void put_field(struct sheet *s, size_t *at, unsigned width, unsigned value) {
+    for (unsigned i = width; i-- > 0; ++*at) s->bytes[*at / 8] |= (uint8_t)((value >> i & 1) << (7 - *at % 8));
+}
+
+/* The sheet of a plan, whether its values obey the rules or not. */
+static inline struct sheet make_sheet(const struct plan *p) {
+    struct sheet s;
+    size_t at = 16;
+    memset(&s, 0, sizeof s);
+    for (unsigned i = 0; i < p->components; i++) {
+        const struct component *c = &p->component[i];
+        put_field(&s, &at, 4, c->count);
+        put_field(&s, &at, 2, 0);
+        put_field(&s, &at, 10, c->total);
+        for (unsigned j = 0; j < c->count; j++) {
+            put_field(&s, &at, 12, c->focal[j].low);
+            put_field(&s, &at, 12, c->focal[j].high);
+            put_field(&s, &at, 10, c->focal[j].weight);
+        }
+        at = (at + 7) / 8 * 8;
+    }
+    for (unsigned i = 0; i + 1 < 2 * p->components; i++) put_field(&s, &at, 4, p->entry[i]);
+    s.length = (at + 7) / 8;
+    s.bytes[0] = (uint8_t)(0x10 | p->components);
+    s.bytes[1] = (uint8_t)s.length;
+    return s;
+}
+
+/* `count` single speeds, step apart from 0 on, weight 1 each. */
+static inline struct component speeds(unsigned count, unsigned step) {
+    struct component c;
+    memset(&c, 0, sizeof c);
+    c.total = c.count = count;
+    for (unsigned j = 0; j < count; j++) {
+        c.focal[j].low = c.focal[j].high = j * step;
+        c.focal[j].weight = 1;
+    }
+    return c;
+}
+
+/* The plan with these components and this structure. */
+static inline struct plan make_plan(unsigned components, const struct component *component, const uint8_t *entry) {
+    struct plan p;
+    memset(&p, 0, sizeof p);
+    p.components = components;
+    memcpy(p.component, component, components * sizeof *component);
+    memcpy(p.entry, entry, 2 * components - 1);
+    return p;
+}
+
+/* Two components of the bench table and the two of its example W. */
+static const struct component A = {4, 2, {{0, 0, 1}, {2, 3, 3}}};
+static const struct component B = {3, 2, {{1, 1, 2}, {1, 4, 1}}};
+static const struct component W0 = {100, 3, {{0, 4, 20}, {3, 8, 67}, {7, 10, 13}}};
+static const struct component W1 = {100, 2, {{0, 6, 67}, {8, 10, 33}}};
+
+/* Two components and a join. */
+static inline struct plan two(struct component x, struct component y, unsigned join) {
+    struct component c[2];
+    uint8_t entry[3] = {0, 1, (uint8_t)join};
+    c[0] = x;
+    c[1] = y;
+    return make_plan(2, c, entry);
+}
+
+/* The bench table's D1, D2 and the first `third` speeds of D3: third times 64 speeds, evenly spaced. */
+static inline struct plan three(unsigned third) {
+    static const uint8_t entry[5] = {0, 1, SHARED, 2, SHARED};
+    struct component c[3];
+    c[0] = speeds(8, 1);
+    c[1] = speeds(8, 8);
+    c[2] = speeds(third, 64);
+    return make_plan(3, c, entry);
+}
+
+/* Two groups of three modules, each group as above, then joined. */
+static inline struct plan two_groups(unsigned third, unsigned join) {
+    struct plan p = three(third);
+    static const uint8_t entry[10] = {0, 1, SHARED, 2, SHARED, 3, 4, SHARED, 5, SHARED};
+    p.components = 6;
+    memcpy(&p.component[3], &p.component[0], 3 * sizeof p.component[0]);
+    memcpy(p.entry, entry, sizeof entry);
+    p.entry[10] = (uint8_t)join;
+    return p;
+}
+
+/* The most pairs that a sheet can form: both groups have 64 and 512 pairs for their 256 speeds, and the last join 65,536. */
+static inline struct plan widest(void) {
+    struct plan p = two_groups(1, SERIES);
+    p.component[2] = speeds(8, 27);
+    p.component[2].focal[7].low = p.component[2].focal[7].high = 192;
+    p.component[5] = p.component[2];
+    return p;
+}
+
+/* Memory that ends (or begins) at a page that can not be touched, so that one byte too far stops the test. */
+struct fence {
+    uint8_t *pages;
+    size_t page, size;
+};
+
+static inline struct fence make_fence(size_t size) {
+    struct fence f;
+    f.page = (size_t)sysconf(_SC_PAGESIZE);
+    f.size = (size + f.page - 1) / f.page * f.page;
+    f.pages = (uint8_t *)mmap(NULL, f.size + 2 * f.page, PROT_NONE, MAP_PRIVATE | MAP_ANONYMOUS, -1, 0);
+    if (f.pages == MAP_FAILED || mprotect(f.pages + f.page, f.size, PROT_READ | PROT_WRITE) != 0) {
+        perror("a fenced buffer");
+        exit(2);
+    }
+    return f;
+}
+
+static inline uint8_t *from_start(struct fence f) { return f.pages + f.page; }
+static inline uint8_t *up_to_end(struct fence f, size_t length) { return f.pages + f.page + f.size - length; }
+
+/* A byte that tells its place, for what must stay unchanged. */
+static inline uint8_t mark(size_t i) { return (uint8_t)(i * 37 + i / 256 + 11); }
+
+static inline void fill_marks(uint8_t *bytes, size_t length) {
+    for (size_t i = 0; i < length; i++) bytes[i] = mark(i);
+}
+
+static inline int holds_marks(const uint8_t *bytes, size_t from, size_t to) {
+    while (from < to && bytes[from] == mark(from)) from++;
+    return from == to;
+}
+
+static inline int holds_zeros(const uint8_t *bytes, size_t from, size_t to) {
+    while (from < to && bytes[from] == 0) from++;
+    return from == to;
+}
+
+/* One line for each test: 'ok NAME', or what went wrong. */
+#ifdef __cplusplus
+#define LANGUAGE "C++"
+#else
+#define LANGUAGE "C"
+#endif
+static int failures, failures_before;
+
+#define EXPECT(condition, ...) \
+    do { \
+        if (!(condition)) { \
+            failures++; \
+            printf("FAILED at %s:%d: ", __FILE__, __LINE__); \
+            printf(__VA_ARGS__); \
+            printf("\n"); \
+        } \
+    } while (0)
+
+static inline void finish(const char *name) {
+    if (failures == failures_before) printf("ok " LANGUAGE ": %s\n", name);
+    failures_before = failures;
+    fflush(stdout);
+}
+
+/* A fixed sequence of numbers. */
+static uint64_t random_state = 88172645463325252u;
+
+static inline unsigned random_below(unsigned limit) {
+    random_state ^= random_state << 13;
+    random_state ^= random_state >> 7;
+    random_state ^= random_state << 17;
+    return (unsigned)((random_state >> 32) % limit);
+}
+
+#endif
