@@ -9,7 +9,6 @@ use lib.ListN.{length}
 use borrow.Author.Tests.{eqb-true, eqb-false, ltb-true, ltb-false, ne-eqb, lt-ltb, le-ltb}
 use Rattle.theory.specs.Structure.{Tree}
 use Rattle.theory.specs.Evaluation.{Evaluation, completed, refused}
-use Rattle.sheet.specs.declared.Plan.{Plan}
 use Rattle.sheet.specs.Reading.{readOf}
 use Rattle.evaluate.specs.declared.Answer.{Answer}
 use Rattle.evaluate.proofs.First.{sheet-number}
@@ -68,34 +67,35 @@ module _ (s : List ℕ) (allowance room : ℕ) where
             let h : storeBytes ≤ room = ltb-false room storeBytes q in
             rw (when-accepted stack pairs z h r) (accepted z h r)
 
-same-number : (v : Evaluation Tree) (p : Plan) (d e : ℕ) → (ended v p d) .number ≡ (ended v p e) .number
-same-number (completed stack pairs) p d e = refl
-same-number (refused k) p d e = refl
+-- the number does not depend on the demand
+any-demand : (s : List ℕ) (allowance room d e : ℕ) → (answer s d allowance room) .number ≡ (answer s e allowance room) .number
+any-demand s allowance room d e = go ((answer s e allowance room) .number) (case s allowance room e)
+  where
+    go : (n : ℕ) → Case s allowance room n → (answer s d allowance room) .number ≡ n
+    go n (unread h z) = ap (λ (a : Answer). a .number) (when-unread s allowance room d n h z)
+    go n (short z h) = ap (λ (a : Answer). a .number) (when-short s allowance room d z h)
+    go n (stopped z h r) = ap (λ (a : Answer). a .number) (when-stopped s allowance room d n z h r)
+    go n (accepted {stack = stack} {pairs = pairs} z h r) = ap (λ (a : Answer). a .number) (when-accepted s allowance room d stack pairs z h r)
 
--- What a call answers and leaves, in terms of what the sheet reads as.
+-- What a call leaves in the store, by its number, and what it answers, by what the sheet reads as.
 module _ (s : List ℕ) (demand allowance : ℕ) (store : List ℕ) where
-  -- the number does not depend on the demand
-  pub stored : (a : Answer) → ((d : ℕ) → (answer s d allowance (length store)) .number ≡ a .number) → storeAfter s allowance store ≡ storeBy (a .number) (planList ((readOf s) .plan)) store
+  pub stored : (k : ℕ) → (answer s demand allowance (length store)) .number ≡ k → storeAfter s allowance store ≡ storeBy k (planList ((readOf s) .plan)) store
   unfolding storeAfter
-  stored a e = ap (λ n. storeBy n (planList ((readOf s) .plan)) store) (e 0)
+  stored k e = ap (λ n. storeBy n (planList ((readOf s) .plan)) store) (any-demand s allowance (length store) 0 demand ∙ e)
+
+  pub early : (k : ℕ) → 0 < k → k ≤ 12 → storeBy k (planList ((readOf s) .plan)) store ≡ store
+  early k h l = rw (ne-eqb k 0 (omega arith), ne-eqb k 13 (omega arith), ne-eqb k 14 (omega arith)) refl
 
   pub unread-call : 0 < (readOf s) .number → (refusal ((readOf s) .number) ≡ answer s demand allowance (length store)) × (store ≡ storeAfter s allowance store)
   unread-call h =
       let k = (readOf s) .number in
-      let l : k ≤ 11 = sheet-number s in (
-        sym (when-unread s allowance (length store) demand k h refl),
-        sym (stored (refusal k) (λ d. ap (λ (x : Answer). x .number) (when-unread s allowance (length store) d k h refl)) ∙ rw (ne-eqb k 0 (omega arith), ne-eqb k 13 (omega arith), ne-eqb k 14 (omega arith)) refl),
-      )
+      let a = when-unread s allowance (length store) demand k h refl in
+      (sym a, sym (stored k (ap (λ (x : Answer). x .number) a) ∙ early k h (omega (arith, sheet-number s))))
 
   pub short-call : (readOf s) .number ≡ 0 → length store < storeBytes → (refusal 12 ≡ answer s demand allowance (length store)) × (store ≡ storeAfter s allowance store)
-  short-call e h =
-      (sym (when-short s allowance (length store) demand e h), sym (stored (refusal 12) (λ d. ap (λ (x : Answer). x .number) (when-short s allowance (length store) d e h))))
+  short-call e h = let a = when-short s allowance (length store) demand e h in (sym a, sym (stored 12 (ap (λ (x : Answer). x .number) a)))
 
   pub run-call : (readOf s) .number ≡ 0 → storeBytes ≤ length store
       → (ended (run ((readOf s) .plan) allowance) ((readOf s) .plan) demand ≡ answer s demand allowance (length store))
       × (storeBy (ended (run ((readOf s) .plan) allowance) ((readOf s) .plan) demand .number) (planList ((readOf s) .plan)) store ≡ storeAfter s allowance store)
-  run-call e h =
-      let is : (d : ℕ) → answer s d allowance (length store) ≡ ended (run ((readOf s) .plan) allowance) ((readOf s) .plan) d = λ d. when-run s allowance (length store) d e h in (
-        sym (is demand),
-        sym (stored (ended (run ((readOf s) .plan) allowance) ((readOf s) .plan) demand) (λ d. ap (λ (x : Answer). x .number) (is d) ∙ same-number (run ((readOf s) .plan) allowance) ((readOf s) .plan) d demand)),
-      )
+  run-call e h = let a = when-run s allowance (length store) demand e h in (sym a, sym (stored _ (ap (λ (x : Answer). x .number) a)))

@@ -6,7 +6,6 @@ use mathlib.Core.Logic.{_⊎_, inl, inr, _↔_}
 use mathlib.Core.List.{List, [], _∷_, _++_}
 use native.Mathlib.Omega.{arith}
 use lib.ListN.{length, take, drop}
-use borrow.Author.Tests.{ne-eqb}
 use Rattle.theory.specs.Sums.{Every}
 use Rattle.theory.specs.Focal.{weights, total}
 use Rattle.theory.specs.Structure.{Entry, Tree, trees}
@@ -33,7 +32,7 @@ use Rattle.evaluate.specs.Answer.{storeBytes, refusal, planList, accepta
 use Rattle.evaluate.specs.Store.{filled, cleared, storeBy, storeAfter}
 use Rattle.evaluate.proofs.Ending.{left-by}
 use Rattle.evaluate.proofs.First.{Unbroken, First, sheet-kept, kept-sheet, sheet-broken}
-use Rattle.evaluate.proofs.Cases.{Case, unread, short, stopped, accepted, when-unread, when-short, when-stopped, when-accepted, case}
+use Rattle.evaluate.proofs.Cases.{Case, unread, short, stopped, accepted, when-unread, when-short, when-stopped, when-accepted, case, stored, early}
 
 -- The plan that a sheet reads as, its components and its structure.
 module _ (s : List ℕ) where
@@ -71,23 +70,9 @@ pub record Demand-1 (s : List ℕ) (demand allowance : ℕ) (store : List ℕ) :
   pub store-late : (k : ℕ) → (k ≡ 13) ⊎ (k ≡ 14) → (answer s demand allowance (length store)) .number ≡ k → storeAfter s allowance store ≡ cleared store
   pub store-early : (k : ℕ) → 0 < k → k ≤ 12 → (answer s demand allowance (length store)) .number ≡ k → storeAfter s allowance store ≡ store
 
--- the number does not depend on the demand
-same-number : (s : List ℕ) (allowance room d e : ℕ) → (answer s d allowance room) .number ≡ (answer s e allowance room) .number
-same-number s allowance room d e = go ((answer s e allowance room) .number) (case s allowance room e)
-  where
-    go : (n : ℕ) → Case s allowance room n → (answer s d allowance room) .number ≡ n
-    go n (unread h z) = ap (λ (a : Answer). a .number) (when-unread s allowance room d n h z)
-    go n (short z h) = ap (λ (a : Answer). a .number) (when-short s allowance room d z h)
-    go n (stopped z h r) = ap (λ (a : Answer). a .number) (when-stopped s allowance room d n z h r)
-    go n (accepted {stack = stack} {pairs = pairs} z h r) = ap (λ (a : Answer). a .number) (when-accepted s allowance room d stack pairs z h r)
-
 module _ (s : List ℕ) (demand allowance : ℕ) (store : List ℕ) where
   abbrev number : ℕ
   number = (answer s demand allowance (length store)) .number
-
-  stored : (k : ℕ) → number ≡ k → storeAfter s allowance store ≡ storeBy k (planList ((readOf s) .plan)) store
-  unfolding storeAfter
-  stored k e = ap (λ n. storeBy n (planList ((readOf s) .plan)) store) (same-number s allowance (length store) 0 demand ∙ e)
 
   late : (k : ℕ) → (k ≡ 13) ⊎ (k ≡ 14) → storeBy k (planList ((readOf s) .plan)) store ≡ cleared store
   late k (inl e) = rw e refl
@@ -125,9 +110,9 @@ module _ (s : List ℕ) (demand allowance : ℕ) (store : List ℕ) where
     exactly = (kept number (case s allowance (length store) demand), λ K. ap (λ (a : Answer). a .number) (answered K));
     one-number = λ k l e. broken number (case s allowance (length store) demand) k l e;
     zeros = λ k l e. zeroed number (case s allowance (length store) demand) k l e;
-    store-accepted = λ e. stored 0 e;
-    store-late = λ k h e. stored k e ∙ late k h;
-    store-early = λ k h l e. stored k e ∙ rw (ne-eqb k 0 (omega arith), ne-eqb k 13 (omega arith), ne-eqb k 14 (omega arith)) refl;
+    store-accepted = λ e. stored s demand allowance store 0 e;
+    store-late = λ k h e. stored s demand allowance store k e ∙ late k h;
+    store-early = λ k h l e. stored s demand allowance store k e ∙ early s demand allowance store k h l;
   }
 
 -- Demand 2, for an accepted call.

@@ -10,6 +10,7 @@ use lib.ListN.{length, getD, take, drop, length-map, take-append-drop}
 use Rattle.theory.specs.Sums.{countFrom}
 use Rattle.theory.specs.Structure.{Entry, component, join, step, run, named}
 use Rattle.theory.specs.Lists.{noComponent}
+use Rattle.theory.proofs.Sums.{length-count}
 use Rattle.theory.specs.declared.Join.{Join}
 use Rattle.sheet.specs.declared.Plan.{Plan}
 use Rattle.sheet.specs.Rules.{badCode}
@@ -54,10 +55,6 @@ getD-count : (k n i : ℕ) → i < n → getD (countFrom k n) i 0 ≡ k + i
 getD-count k zero i h = absurd (omega arith)
 getD-count k (suc n) zero h = omega arith
 getD-count k (suc n) (suc i) h = getD-count (suc k) n i (omega arith) ∙ omega arith
-
-pub length-count : (k n : ℕ) → length (countFrom k n) ≡ n
-length-count k zero = refl
-length-count k (suc n) = ap suc (length-count (suc k) n)
 
 getD-map : {A B : Type 0} (f : A → B) (xs : List A) (i : ℕ) (a : A) (b : B) → i < length xs → getD (map f xs) i b ≡ f (getD xs i a)
 getD-map f [] i a b h = absurd (omega arith)

@@ -33,7 +33,8 @@ use Rattle.sheet.specs.Kept.{Kept}
 use Rattle.evaluate.specs.Answer.{storeBytes}
 use Rattle.evaluate.specs.declared.Stack.{Stack}
 use Rattle.evaluate.specs.Stack.{emptyStack, listAt, listsBelow, Apart, withList, pushed, pushedStore, left, right, spent}
-use Rattle.evaluate.proofs.Entries.{joinCount, counted, joins-append, named-append, run-append, joins-split, named-split, entries-count, codes-count, component-is, code-is, entry-is, length-count}
+use Rattle.evaluate.proofs.Entries.{joinCount, counted, joins-append, named-append, run-append, joins-split, named-split, entries-count, codes-count, component-is, code-is, entry-is}
+use Rattle.theory.proofs.Sums.{length-count}
 
 -- what is left to walk, on lists: the method
 abbrev pub walkLists : Plan → ℕ → List Entry → List (List Focal) → ℕ → Evaluation (List Focal)

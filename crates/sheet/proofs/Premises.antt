@@ -1,19 +1,21 @@
 -- A plan that keeps the rules meets every premise of the drive calculation. Assumes nothing.
 use borrow.Author.Tests.{ltb-true, ltb-false, leb-false, eqb-true, eqb-false, not-false, lt-ltb, le-ltb, ne-eqb}
-use mathlib.Core.Path.{_≡_, refl, ap, _∙_}
-use mathlib.Core.Logic.{⊎-elim, inl, inr}
+use mathlib.Core.Path.{_≡_, refl}
+use mathlib.Core.Logic.{inl, inr}
 use mathlib.Core.Bool.{Bool, true, false, not, _&&_, _||_, false≢true}
 use mathlib.Core.List.{List, [], _∷_, map}
-use Prim.Native.Nat.{ℕ, zero, suc, _+_, _-_, _*_, _≤_, _<_}
+use Prim.Native.Nat.{ℕ, zero, suc, _-_, _≤_, _<_}
 use native.Mathlib.Decide.{decLt, ℕ-discrete}
 use native.Mathlib.Omega.{arith}
 use lib.Dec.{leb, ltb, eqb, lit<}
 use lib.ListN.{length, length-map}
 use Rattle.theory.specs.Sums.{countFrom, countOf, Every, none, more}
-use Rattle.theory.specs.Focal.{Focal, topSpeed, focalAt, masses, InRange, AllInRange, AllWeighty, Balanced, Weighty}
-use Rattle.theory.specs.Structure.{named, joinsFindTwo, NamedOnce}
+use Rattle.theory.specs.Focal.{Focal, topSpeed, focalAt, InRange, Weighty}
+use Rattle.theory.specs.Structure.{named, NamedOnce}
 use Rattle.theory.specs.Lists.{Before, InOrder}
 use Rattle.theory.specs.declared.Component.{Component}
+use Rattle.theory.proofs.Order.{before-trans}
+use Rattle.theory.proofs.Sums.{length-count}
 use Rattle.sheet.specs.declared.Plan.{Plan}
 use Rattle.sheet.specs.Tests.{firstBroken, some}
 use Rattle.sheet.specs.Plan.{mostComponents, entryCount, componentsOf, codesOf, entryOf, entriesOf}
@@ -31,13 +33,6 @@ is-before f g = go (ltb (f .low) (g .low)) (eqb (f .low) (g .low)) (ltb (f .high
     go false true true x y z e = inr (eqb-true (f .low) (g .low) y, ltb-true (f .high) (g .high) z)
     go false true false x y z e = absurd (false≢true e)
     go false false d x y z e = absurd (false≢true e)
-
-before-trans : (f g h : Focal) → Before f g → Before g h → Before f h
-before-trans f g h a b =
-    ⊎-elim
-    (λ x. ⊎-elim (λ y. inl (omega arith)) (λ y. inl (omega (arith, y))) b)
-    (λ x. ⊎-elim (λ y. inl (omega (arith, x))) (λ y. inr (x .0 ∙ y .0, omega (arith, x, y))) b)
-    a
 
 -- rule 7, of an interval
 module _ (c : Component) where
@@ -111,10 +106,6 @@ named-once p e d i = elim (decLt i (p .count)) [
   | yes h ↦ rw (lt-ltb i (p .count) h) (eqb-true _ 1 (not-false _ (some-below (badNaming (entriesOf p)) 0 (p .count) i d (omega arith) (omega arith))))
   | no h ↦ rw (le-ltb i (p .count) (omega arith)) (none-above (p .count) i (codesOf p) (omega arith) e)
 ]
-
-pub length-count : (k n : ℕ) → length (countFrom k n) ≡ n
-length-count k zero = refl
-length-count k (suc n) = ap suc (length-count (suc k) n)
 
 pub entries-counted : (p : Plan) → length (entriesOf p) ≡ entryCount (p .count)
 entries-counted p = simp (length-map, length-count)

@@ -16,7 +16,7 @@ use Rattle.sheet.specs.Plan.{entryCount, componentAt, componentsOf, code
 use Rattle.sheet.specs.Rules.{Sized}
 use Rattle.sheet.specs.Writing.{endOf, lengthOf, headFields, blockFields, structureFields, sheetFields}
 use Rattle.sheet.proofs.Loops.{from, from-zero, from-next, from-end}
-use Rattle.sheet.proofs.Premises.{length-count}
+use Rattle.theory.proofs.Sums.{length-count}
 use Rattle.sheet.proofs.Some.{each}
 
 -- the bytes and the fields of the blocks from i on

@@ -1,5 +1,5 @@
 -- A structure of 2n − 1 entries that names each component once, and whose joins find two lists, leaves one tree that names each once. Assumes nothing.
-use Prim.Native.Nat.{ℕ, zero, suc, _+_, _*_, _<_}
+use Prim.Native.Nat.{ℕ, _+_, _*_, _<_}
 use mathlib.Core.Path.{_≡_, refl, sym, ap, _∙_}
 use mathlib.Core.Bool.{true, cond, false≢true}
 use mathlib.Core.List.{List, [], _∷_, _++_}
@@ -9,7 +9,7 @@ use lib.ListN.{length, length-append}
 use borrow.Author.Tests.{eq-eqb}
 use Rattle.theory.specs.Sums.{sumBy, countFrom, countOf}
 use Rattle.theory.specs.Structure.{Entry, component, join, run, named, NamedOnce, joinsFindTwo, Tree, leaf, node, trees, leaves}
-use Rattle.theory.proofs.Sums.{sum-append}
+use Rattle.theory.proofs.Sums.{sum-append, length-count}
 use Rattle.theory.proofs.Bridge.{NamesEach, del, count-del, length-del, count-all}
 
 -- how often the trees of a stack name a component
@@ -54,17 +54,13 @@ same-length (k ∷ ks) is h =
     let p : 0 < countOf k is = omega (arith, rw (eq-eqb k k refl) at (h k)) in
     omega (arith, length-del k is p, same-length ks (del k is) (λ j. omega (arith, h j, count-del k is p j)))
 
-length-countFrom : (k n : ℕ) → length (countFrom k n) ≡ n
-length-countFrom k zero = refl
-length-countFrom k (suc n) = ap suc (length-countFrom (suc k) n)
-
 one-left : (ts : List Tree) → length ts ≡ 1 → (t : Tree) × (ts ≡ t ∷ [])
 one-left [] h = absurd (omega arith)
 one-left (t ∷ []) h = (t, refl)
 one-left (t ∷ u ∷ ts) h = absurd (omega arith)
 
 pub named-length : (n : ℕ) (es : List Entry) → NamedOnce n es → length (named es) ≡ n
-named-length n es names = same-length (countFrom 0 n) (named es) (λ j. names j ∙ sym (count-all j n)) ∙ length-countFrom 0 n
+named-length n es names = same-length (countFrom 0 n) (named es) (λ j. names j ∙ sym (count-all j n)) ∙ length-count 0 n
 
 pub one-tree : (n : ℕ) (es : List Entry) → length es + 1 ≡ 2 * n → NamedOnce n es → joinsFindTwo es 0 ≡ true
     → (t : Tree) × (trees es ≡ t ∷ []) × NamesEach n t

@@ -6,6 +6,7 @@ use mathlib.Core.List.{List, [], _∷_, _++_, map}
 use native.Mathlib.Nat.{mul-one, add-zero, add-assoc, zero-add, mul-zero, mul-add, add-le-add, le-refl}
 use native.Mathlib.Omega.{arith}
 use lib.Dec.{eqb}
+use lib.ListN.{length}
 use borrow.Author.Tests.{eqb-true, eqb-false, ne-eqb}
 use Rattle.theory.specs.Sums.{sumBy, forEach, oneOfEach, countFrom}
 
@@ -76,3 +77,7 @@ sum-point a g k (suc n) h l = go (eqb k a) refl (λ i. sum-point a g (suc k) n i
 pub cond-mul : (b : Bool) (w : ℕ) → cond b w 0 ≡ w * cond b 1 0
 cond-mul true w = sym (mul-one w)
 cond-mul false w = sym (mul-zero w)
+
+pub length-count : (k n : ℕ) → length (countFrom k n) ≡ n
+length-count k zero = refl
+length-count k (suc n) = ap suc (length-count (suc k) n)

@@ -9,7 +9,7 @@ use Rattle.theory.specs.Lists.{collect}
 use Rattle.theory.specs.declared.Component.{Component}
 use Rattle.theory.proofs.Lists.{length-collect}
 use Rattle.evaluate.specs.Stack.{withList}
-use Rattle.evaluate.proofs.Entries.{length-count}
+use Rattle.theory.proofs.Sums.{length-count}
 use borrow.Author.Needs.{needs}
 use Rattle.evaluate.proofs.push.Statement.{statement}
 use Rattle.evaluate.proofs.push.Tie as tie
