@@ -1,5 +1,5 @@
 -- From a plan's run to the answer: the store as a whole, and the list read back from it. Assumes nothing.
-use Prim.Native.Nat.{ℕ, _-_, _*_, _^_, _≤_, _<_}
+use Prim.Native.Nat.{ℕ, zero, suc, _-_, _*_, _^_, _≤_, _<_}
 use mathlib.Core.Path.{_≡_, refl, sym, ap, _∙_}
 use mathlib.Core.Bool.{Bool, true, false, cond, _||_}
 use mathlib.Core.Logic.{_⊎_, inl, inr}
@@ -26,7 +26,7 @@ use Rattle.sheet.specs.declared.Plan.{Plan}
 use Rattle.sheet.specs.Plan.{componentsOf, entriesOf}
 use Rattle.sheet.specs.Kept.{Kept}
 use Rattle.evaluate.specs.declared.Ran.{Ran}
-use Rattle.evaluate.specs.Answer.{storeBytes, refusal, planOutcomes, planList, run, ended, ranOf}
+use Rattle.evaluate.specs.Answer.{storeBytes, refusal, planOutcomes, planList, run, ranOf, ran, answerBy, planAnswer}
 use Rattle.evaluate.specs.Store.{filled, cleared, storeBy}
 use Rattle.evaluate.proofs.Ending.{left-by}
 
@@ -36,18 +36,18 @@ pub record Accepts (p : Plan) (allowance : ℕ) (r : Ran) : Type 0 where
   pub runs : run p allowance ≡ completed stack (r .pairs)
   pub length-is : r .intervals ≡ length (planList p)
 
-module _ (p : Plan) (allowance : ℕ) (r : Ran) (e : r ≡ ranOf (run p allowance) p) where
-  pub refuses : (demand : ℕ) → (r .number ≡ 0 → ⊥) → refusal (r .number) ≡ ended (run p allowance) p demand
-  refuses demand z = go (run p allowance) (ap (λ (x : Ran). x .number) e)
+module _ (p : Plan) (allowance : ℕ) (r : Ran) (e : r ≡ ran p allowance) where
+  pub refuses : (demand : ℕ) → (r .number ≡ 0 → ⊥) → refusal (r .number) ≡ planAnswer p demand allowance
+  refuses demand z = go (r .number) (ap (λ (x : Ran). x .number) e) z
     where
-      go : (v : Evaluation Tree) → r .number ≡ (ranOf v p) .number → refusal (r .number) ≡ ended v p demand
-      go (completed stack pairs) q = absurd (z q)
-      go (refused k) q = ap refusal q
+      go : (n : ℕ) → n ≡ (ran p allowance) .number → (n ≡ 0 → ⊥) → refusal n ≡ planAnswer p demand allowance
+      go zero q z = absurd (z refl)
+      go (suc k) q z = ap (λ n. answerBy n p demand ((ran p allowance) .pairs)) q
 
   pub accepts : r .number ≡ 0 → Accepts p allowance r
   accepts z = go (run p allowance) refl e
     where
-      go : (v : Evaluation Tree) → run p allowance ≡ v → r ≡ ranOf (run p allowance) p → Accepts p allowance r
+      go : (v : Evaluation Tree) → run p allowance ≡ v → r ≡ ran p allowance → Accepts p allowance r
       go (completed stack pairs) q f =
           let g : r ≡ record { number = 0; pairs = pairs; intervals = length (planList p) } = f ∙ ap (λ (v : Evaluation Tree). ranOf v p) q in
           record { stack = stack; runs = q ∙ ap (completed stack) (sym (ap (λ (x : Ran). x .pairs) g)); length-is = ap (λ (x : Ran). x .intervals) g }
@@ -58,11 +58,6 @@ module _ (p : Plan) (allowance : ℕ) (r : Ran) (e : r ≡ ranOf (run p allowanc
           late : (k ≡ 13) ⊎ (k ≡ 14) → k ≡ 0 → ⊥
           late (inl a) b = omega arith
           late (inr a) b = omega arith
-
--- the number of the run is that of the answer
-pub same-number : (e : Evaluation Tree) (p : Plan) (demand : ℕ) → (ended e p demand) .number ≡ (ranOf e p) .number
-same-number (completed stack pairs) p demand = refl
-same-number (refused k) p demand = refl
 
 -- the working region at the front of a store
 module _ (s : List ℕ) (h : storeBytes ≤ length s) where

@@ -9,7 +9,7 @@ use Rattle.block.specs.Block.{whole, zeroed, componentOf}
 use Rattle.sheet.specs.Rules.{rule6, rule7, rule8, rule9, rule10, rule11}
 use Rattle.sheet.specs.Reading.{startOf, planIn, badLayout, badZeros, readOf}
 use Rattle.evaluate.specs.declared.Answer.{Answer}
-use Rattle.evaluate.specs.Answer.{storeBytes, refusal, planList, answer}
+use Rattle.evaluate.specs.Answer.{storeBytes, refusal, planList, number, answer}
 
 abbrev iv : ℕ → ℕ → ℕ → Focal
 iv low high weight = record { low = low; high = high; weight = weight }
@@ -42,7 +42,7 @@ abbrev accepted : ℕ → ℕ → ℕ → ℕ → ℕ → Answer
 accepted total belief plausibility pairs intervals =
     record { number = 0; total = total; belief = belief; plausibility = plausibility; pairs = pairs; intervals = intervals }
 
--- the drive's list of a sheet
+-- the drive's list of a sheet, which an accepted call leaves in the store
 abbrev listed : List ℕ → List Focal
 listed sheet = planList ((readOf sheet) .plan)
 
@@ -53,19 +53,22 @@ asked sheet demand = answer sheet demand 1000 storeBytes
 pub record Bench : Type 0 where
   pub P1-list : listed ABseries ≡ iv 0 0 3 ∷ iv 1 1 6 ∷ iv 1 3 3 ∷ []
   pub P1 : asked ABseries 2 ≡ accepted 12 0 3 4 3
-  pub P2 : listed ABshared ≡ iv 1 1 2 ∷ iv 1 4 1 ∷ iv 3 4 6 ∷ iv 3 7 3 ∷ []
+  pub P2-list : listed ABshared ≡ iv 1 1 2 ∷ iv 1 4 1 ∷ iv 3 4 6 ∷ iv 3 7 3 ∷ []
+  pub P2 : asked ABshared 1 ≡ accepted 12 12 12 4 4
   pub P3 : asked ABshared 3 ≡ accepted 12 9 10 4 4
   pub P4-seven : asked ABshared 7 ≡ accepted 12 0 3 4 4
   pub P4-eight : asked ABshared 8 ≡ accepted 12 0 0 4 4
   pub P5 : asked ABshared 0 ≡ accepted 12 12 12 4 4
-  pub P6 : listed ABspare ≡ iv 1 1 2 ∷ iv 1 4 1 ∷ iv 2 3 6 ∷ iv 2 4 3 ∷ []
-  pub P7 : listed W ≡ iv 0 4 2000 ∷ iv 0 6 5360 ∷ iv 3 8 2211 ∷ iv 7 10 429 ∷ []
+  pub P6-list : listed ABspare ≡ iv 1 1 2 ∷ iv 1 4 1 ∷ iv 2 3 6 ∷ iv 2 4 3 ∷ []
+  pub P6 : asked ABspare 2 ≡ accepted 12 9 10 4 4
+  pub P7-list : listed W ≡ iv 0 4 2000 ∷ iv 0 6 5360 ∷ iv 3 8 2211 ∷ iv 7 10 429 ∷ []
+  pub P7 : asked W 0 ≡ accepted 10000 10000 10000 6 4
   pub P8 : asked W 7 ≡ accepted 10000 429 2640 6 4
   pub P9-four : answer ABshared 3 4 storeBytes ≡ accepted 12 9 10 4 4
   pub P9-three : answer ABshared 3 3 storeBytes ≡ refusal 13
   pub P10 : asked (AB (0x80 ∷ 0x10 ∷ [])) 0 ≡ refusal 11
 
 pub bench : Bench
-unfolding bit fieldAt row whole zeroed componentOf rule6 rule7 rule8 rule9 rule10 rule11 startOf planIn badLayout badZeros readOf answer
+unfolding bit fieldAt row whole zeroed componentOf rule6 rule7 rule8 rule9 rule10 rule11 startOf planIn badLayout badZeros readOf number answer
 bench =
-    record { P1-list = refl; P1 = refl; P2 = refl; P3 = refl; P4-seven = refl; P4-eight = refl; P5 = refl; P6 = refl; P7 = refl; P8 = refl; P9-four = refl; P9-three = refl; P10 = refl }
+    record { P1-list = refl; P1 = refl; P2-list = refl; P2 = refl; P3 = refl; P4-seven = refl; P4-eight = refl; P5 = refl; P6-list = refl; P6 = refl; P7-list = refl; P7 = refl; P8 = refl; P9-four = refl; P9-three = refl; P10 = refl }

@@ -23,7 +23,7 @@ use Rattle.lists.specs.Building.{Filled, holdingFrom, settled}
 use Rattle.lists.proofs.Store.{fill-made}
 use Rattle.sheet.specs.Plan.{entryCount, componentsOf, entryOf, entriesOf}
 use Rattle.sheet.specs.Kept.{Kept}
-use Rattle.evaluate.specs.Answer.{storeBytes, planList, run, ranOf}
+use Rattle.evaluate.specs.Answer.{storeBytes, planList, run, ran}
 use Rattle.evaluate.specs.Store.{filled, cleared, storeBy}
 use Rattle.evaluate.specs.declared.Step.{Step}
 use Rattle.evaluate.specs.declared.Stack.{Stack}
@@ -119,8 +119,8 @@ module _ {p : Plan} (K : Kept p) {allowance i : ℕ} {store : List ℕ} {st : St
   -- what the run then answers, and the store that it leaves
   abbrev Refused : ℕ → List ℕ → List ℕ → Type 0
   Refused k region after =
-      (record { number = k; pairs = 0; intervals = 0 } ≡ ranOf (run p allowance) p)
-      × (after ≡ storeBy (ranOf (run p allowance) p .number) (planList p) region)
+      (record { number = k; pairs = 0; intervals = 0 } ≡ ran p allowance)
+      × (after ≡ storeBy (ran p allowance .number) (planList p) region)
 
   pub join-stops : {s : Step} {after : List ℕ} → Out s after → (s .number ≡ 0 → ⊥) → (region cleared-now : List ℕ) → cleared-now ≡ cleared region → Refused (s .number) region cleared-now
   join-stops (thirteen e r) z region x c = (rw r (ap (λ (t : Step). record { number = t .number; pairs = 0; intervals = 0 }) e), rw r c)

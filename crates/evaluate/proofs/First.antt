@@ -7,17 +7,16 @@ use native.Mathlib.Omega.{arith}
 use Rattle.theory.specs.Sums.{Every}
 use Rattle.theory.proofs.Every.{every-map}
 use Rattle.sheet.specs.declared.Plan.{Plan}
-use Rattle.sheet.specs.Tests.{Test, firstBroken, outside}
+use Rattle.sheet.specs.Tests.{Test, firstBroken, outside, some}
+use Rattle.sheet.specs.Writing.{planTests, numberOf}
+use Rattle.evaluate.specs.Demands.{Unbroken, First, here, later}
+use mathlib.Core.Logic.{_↔_}
 use Rattle.sheet.specs.Reading.{sheetTests, reading, planIn, readOf}
 use Rattle.sheet.proofs.Some.{each, within, all-kept, none-broken}
 
-abbrev pub Unbroken : Test → Type 0
-Unbroken t = t .broken ≡ false
-
--- k is the number of a test that is broken, and none before it is
-pub data First : List Test → ℕ → Type 0 where
-  here : {t : Test} {ts : List Test} {k : ℕ} → t .broken ≡ true → t .number ≡ k → First (t ∷ ts) k
-  later : {t : Test} {ts : List Test} {k : ℕ} → Unbroken t → First ts k → First (t ∷ ts) k
+first-is : {ts : List Test} {k : ℕ} → First ts k → firstBroken ts ≡ k
+first-is (here q e) = rw q e
+first-is (later q r) = rw q (first-is r)
 
 one-broken : (ts : List Test) (k : ℕ) → 0 < k → firstBroken ts ≡ k → First ts k
 one-broken [] k h e = absurd (omega arith)
@@ -39,16 +38,28 @@ reading-number : (n : ℕ) (p : Plan) → (reading n p) .number ≡ n
 reading-number zero p = refl
 reading-number (suc n) p = refl
 
-module _ (s : List ℕ) where
-  numbers : Every (λ t. (1 ≤ t .number) × (t .number ≤ 11)) (sheetTests s)
-  numbers = each (λ t. outside 1 11 (t .number)) (sheetTests s) (λ t h. within 1 11 (t .number) h) refl
+-- tests with numbers from 1 to n, by a test of all
+module _ (n : ℕ) (ts : List Test) (e : some (λ t. outside 1 n (t .number)) ts ≡ false) where
+  numbers : Every (λ t. (1 ≤ t .number) × (t .number ≤ n)) ts
+  numbers = each (λ t. outside 1 n (t .number)) ts (λ t h. within 1 n (t .number) h) e
 
-  read-number : (readOf s) .number ≡ firstBroken (sheetTests s)
+  pub no-number : firstBroken ts ≡ 0 → Every Unbroken ts
+  no-number = all-kept ts (every-map (λ t h. h .0) numbers)
+
+  pub first-number : (k : ℕ) → 0 < k → firstBroken ts ≡ k → First ts k
+  first-number k h e = one-broken ts k h e
+
+  pub most-number : firstBroken ts ≤ n
+  most-number = at-most n (every-map (λ t h. h .1) numbers)
+
+-- of a sheet
+module _ (s : List ℕ) where
+  pub read-number : (readOf s) .number ≡ firstBroken (sheetTests s)
   unfolding readOf
   read-number = reading-number (firstBroken (sheetTests s)) (planIn s)
 
   pub sheet-kept : (readOf s) .number ≡ 0 → Every Unbroken (sheetTests s)
-  sheet-kept e = all-kept (sheetTests s) (every-map (λ t h. h .0) numbers) (sym read-number ∙ e)
+  sheet-kept e = no-number 11 (sheetTests s) refl (sym read-number ∙ e)
 
   pub kept-sheet : Every Unbroken (sheetTests s) → (readOf s) .number ≡ 0
   kept-sheet h = read-number ∙ none-broken h
@@ -56,5 +67,16 @@ module _ (s : List ℕ) where
   pub sheet-broken : (k : ℕ) → 0 < k → (readOf s) .number ≡ k → First (sheetTests s) k
   sheet-broken k h e = one-broken (sheetTests s) k h (sym read-number ∙ e)
 
+  pub broken-sheet : (k : ℕ) → First (sheetTests s) k → (readOf s) .number ≡ k
+  broken-sheet k f = read-number ∙ first-is f
+
   pub sheet-number : (readOf s) .number ≤ 11
-  sheet-number = rw read-number (at-most 11 (every-map (λ t h. h .1) numbers))
+  sheet-number = rw read-number (most-number 11 (sheetTests s) refl)
+
+-- of a plan to be written
+module _ (p : Plan) (room : ℕ) where
+  pub plan-accepted : (numberOf p room ≡ 0) ↔ Every Unbroken (planTests p room)
+  plan-accepted = (no-number 15 (planTests p room) refl, none-broken)
+
+  pub plan-refused : (k : ℕ) → 0 < k → (numberOf p room ≡ k) ↔ First (planTests p room) k
+  plan-refused k h = (one-broken (planTests p room) k h, first-is)

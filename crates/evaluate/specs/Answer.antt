@@ -1,5 +1,5 @@
 -- What a call on a sheet, a demand and an allowance answers. Assumes nothing.
-use Prim.Native.Nat.{ℕ}
+use Prim.Native.Nat.{ℕ, zero, suc}
 use mathlib.Core.Bool.{cond}
 use mathlib.Core.List.{List}
 use lib.Dec.{ltb, eqb}
@@ -31,9 +31,30 @@ planOutcomes p = outcomes (entriesOf p) (componentsOf p)
 abbrev pub planList : Plan → List Focal
 planList p = driveList (entriesOf p) (componentsOf p)
 
--- An accepted plan: U, formula (7) over all choices, the pairs formed, the length of the drive's list.
-abbrev pub acceptance : Plan → ℕ → ℕ → Answer
-acceptance p demand pairs =
+-- The plan runs: 13 or 14 at a join, or the pairs formed.
+abbrev pub run : Plan → ℕ → Evaluation Tree
+run p allowance = evaluate (componentsOf p) allowance (entriesOf p)
+
+-- what the run itself answers: number, pairs and the length of the drive's list
+abbrev pub ranOf : Evaluation Tree → Plan → Ran
+ranOf (completed stack pairs) p = record { number = 0; pairs = pairs; intervals = length (planList p) }
+ranOf (refused number) p = record { number = number; pairs = 0; intervals = 0 }
+
+abbrev pub ran : Plan → ℕ → Ran
+ran p allowance = ranOf (run p allowance) p
+
+-- The number of a call, by what the sheet reads as: 1 to 11; then 12, the store has too few bytes; then that of the run.
+abbrev pub numberOf : Reading → ℕ → ℕ → ℕ
+numberOf r allowance room =
+    cond (eqb (r .number) 0) (cond (ltb room storeBytes) 12 ((ran (r .plan) allowance) .number)) (r .number)
+
+-- the number for a sheet, an allowance and a store of `room` bytes
+unfoldable pub number : List ℕ → ℕ → ℕ → ℕ
+number sheet allowance room = numberOf (readOf sheet) allowance room
+
+-- A plan's answer by the number: 0, then U, formula (7) over all choices, the pairs formed and the length of the drive's list; or a refusal.
+abbrev pub answerBy : ℕ → Plan → ℕ → ℕ → Answer
+answerBy zero p demand pairs =
     record {
       number = 0;
       total = total (componentsOf p);
@@ -42,27 +63,13 @@ acceptance p demand pairs =
       pairs = pairs;
       intervals = length (planList p);
     }
+answerBy (suc k) p demand pairs = refusal (suc k)
 
--- The plan runs: 13 or 14 at a join, or acceptance.
-abbrev pub run : Plan → ℕ → Evaluation Tree
-run p allowance = evaluate (componentsOf p) allowance (entriesOf p)
-
-abbrev pub ended : Evaluation Tree → Plan → ℕ → Answer
-ended (completed stack pairs) p demand = acceptance p demand pairs
-ended (refused number) p demand = refusal number
-
--- What the run itself answers: number, pairs and the length of the drive's list.
-abbrev pub ranOf : Evaluation Tree → Plan → Ran
-ranOf (completed stack pairs) p = record { number = 0; pairs = pairs; intervals = length (planList p) }
-ranOf (refused number) p = record { number = number; pairs = 0; intervals = 0 }
-
--- Of what a sheet reads as: 1 to 11; then 12, the store has too few bytes; then the plan runs.
-abbrev pub answerOf : Reading → ℕ → ℕ → ℕ → Answer
-answerOf r demand allowance room =
-    cond (eqb (r .number) 0)
-    (cond (ltb room storeBytes) (refusal 12) (ended (run (r .plan) allowance) (r .plan) demand))
-    (refusal (r .number))
+-- a plan that is run, at a demand
+abbrev pub planAnswer : Plan → ℕ → ℕ → Answer
+planAnswer p demand allowance = answerBy ((ran p allowance) .number) p demand ((ran p allowance) .pairs)
 
 -- The answer for a sheet, a demand, an allowance and a store of `room` bytes.
 unfoldable pub answer : List ℕ → ℕ → ℕ → ℕ → Answer
-answer sheet demand allowance room = answerOf (readOf sheet) demand allowance room
+answer sheet demand allowance room =
+    answerBy (number sheet allowance room) ((readOf sheet) .plan) demand ((ran ((readOf sheet) .plan) allowance) .pairs)

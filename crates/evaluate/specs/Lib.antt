@@ -2,3 +2,4 @@
 pub mod Answer
 pub mod Store
 pub mod Stack
+pub mod Demands

@@ -1,20 +1,17 @@
 // The call on a sheet, a demand and an allowance.
 ghost use mathlib.Core.Path.{_≡_};
-ghost use mathlib.Core.Logic.{_⊎_};
-ghost use mathlib.Core.Bool.{false};
-ghost use mathlib.Core.List.{_++_};
-ghost use Prim.Native.Nat.{ℕ, _+_, _-_, _*_, _^_, _≤_, _<_};
-ghost use lib.ListN.{length, getD};
+ghost use Prim.Native.Nat.{_+_, _*_, _^_, _≤_, _<_};
+ghost use lib.ListN.{length};
 ghost use Rattle.theory.specs.Sums.{Every};
 ghost use Rattle.theory.specs.Focal.{masses, weights, total, Weighty};
-ghost use Rattle.theory.specs.Structure.{Entry, join};
+ghost use Rattle.theory.specs.Structure.{join};
 ghost use Rattle.theory.specs.Evaluation.{mostIntervals};
-ghost use Rattle.lists.specs.Records.{recordBytes, listBytes, Under, operandLimit, speedLimit};
+ghost use Rattle.lists.specs.Records.{listBytes, Under, operandLimit, speedLimit};
 ghost use Rattle.sheet.specs.Plan.{componentsOf, entryOf};
 ghost use Rattle.sheet.specs.Kept.{Kept};
-ghost use Rattle.evaluate.specs.Answer.{storeBytes, refusal, planList, run, ranOf, ended, answer};
+ghost use Rattle.evaluate.specs.Answer.{storeBytes, refusal, planList, ran, planAnswer, answer};
 ghost use Rattle.evaluate.specs.Store.{storeBy, storeAfter};
-ghost use Rattle.evaluate.specs.Stack.{emptyStack, listAt, withList, pushed, pushedStore, left, right, spent, Apart, joinStep, joinStore};
+ghost use Rattle.evaluate.specs.Stack.{emptyStack, withList, pushed, pushedStore, left, right, Apart, joinStep, joinStore};
 use lists::Joined;
 use sheet::Plan;
 use theory::Component;
@@ -163,8 +160,8 @@ fn join_of(code: u8) -> Join
 fn run_plan(p: Plan, allowance: u32, region: &mut [u8]) -> Ran
     requires { ⌜ Kept p ⌝ }
     requires { ⌜ length (now region) ≡ storeBytes ⌝ }
-    ensures { λ r. ⌜ r ≡ ranOf (run p allowance) p ⌝ }
-    ensures { λ _. ⌜ now (region .exit) ≡ storeBy (ranOf (run p allowance) p .number) (planList p) (now (region .entry)) ⌝ }
+    ensures { λ r. ⌜ r ≡ ran p allowance ⌝ }
+    ensures { λ _. ⌜ now (region .exit) ≡ storeBy (ran p allowance .number) (planList p) (now (region .entry)) ⌝ }
 {
     let n = p.count;
     let m = 2 * n - 1;
@@ -219,8 +216,8 @@ fn total_of(p: Plan) -> u64
 fn answer_plan(p: Plan, demand: u32, allowance: u32, store: &mut [u8]) -> Answer
     requires { ⌜ Kept p ⌝ }
     requires { ⌜ storeBytes ≤ length (now store) ⌝ }
-    ensures { λ r. ⌜ r ≡ ended (run p allowance) p demand ⌝ }
-    ensures { λ _. ⌜ now (store .exit) ≡ storeBy (ended (run p allowance) p demand .number) (planList p) (now (store .entry)) ⌝ }
+    ensures { λ r. ⌜ r ≡ planAnswer p demand allowance ⌝ }
+    ensures { λ _. ⌜ now (store .exit) ≡ storeBy (ran p allowance .number) (planList p) (now (store .entry)) ⌝ }
 {
     let r = run_plan(p, allowance, &mut store[0..STORE]);
     let number = r.number;

@@ -6,8 +6,8 @@ use native.Mathlib.Nat.{add-zero, add-assoc, zero-add}
 use native.Mathlib.Decide.{decLt, ℕ-discrete}
 use native.Mathlib.Omega.{arith}
 use lib.ListN.{length, drop}
-use lib.Seq.{getD-drop}
-use Rattle.field.specs.Bits.{Bytes, bit, fieldAt, putAt}
+use lib.Seq.{getD-drop, drop-set-lt}
+use Rattle.field.specs.Bits.{Bytes, bit, fieldAt, setBit, putAt}
 use Rattle.field.specs.Fields.{Field, widthOf, Fitting, Holds, putAll}
 use Rattle.field.proofs.Field.{bit-lt, field-lt}
 use Rattle.field.proofs.Put.{length-putAt, putAt-other, putAt-same, putAt-bytes, field-ext, bits-ext}
@@ -129,3 +129,18 @@ pub holds-fitting : (s : List ℕ) (a : ℕ) (fs : List Field) → Holds s a fs 
 unfolding Holds Fitting
 holds-fitting s a [] h = tt
 holds-fitting s a (f ∷ fs) h = (rw (← h .0) (field-lt s a (f .width)), holds-fitting s (a + f .width) fs (h .1))
+
+-- bytes behind the fields stay
+setBit-rest : (s : List ℕ) (j b n : ℕ) → j < 8 * n → drop n (setBit s j b) ≡ drop n s
+unfolding setBit
+setBit-rest s j b n h = drop-set-lt n s (j / 8) _ (omega arith)
+
+putAt-rest : (s : List ℕ) (a w v n : ℕ) → a + w ≤ 8 * n → drop n (putAt s a w v) ≡ drop n s
+unfolding putAt
+putAt-rest s a zero v n h = refl
+putAt-rest s a (suc w) v n h = setBit-rest (putAt s a w (v / 2)) (a + w) (v % 2) n (omega arith) ∙ putAt-rest s a w (v / 2) n (omega arith)
+
+pub putAll-rest : (s : List ℕ) (a : ℕ) (fs : List Field) (n : ℕ) → a + widthOf fs ≤ 8 * n → drop n (putAll s a fs) ≡ drop n s
+unfolding putAll widthOf
+putAll-rest s a [] n h = refl
+putAll-rest s a (f ∷ fs) n h = putAll-rest (putAt s a (f .width) (f .value)) (a + f .width) fs n (omega arith) ∙ putAt-rest s a (f .width) (f .value) n (omega arith)

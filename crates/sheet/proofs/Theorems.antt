@@ -8,15 +8,16 @@ use lib.ListN.{length, getD, take, drop, length-drop, length-append, List·getD-
 use lib.Seq.{getD-drop, getD-take, length-take-le, getD-append-add}
 use Rattle.field.specs.Bits.{Bytes, bit}
 use Rattle.field.specs.Fields.{Field, bits, widthOf, Holds, putAll}
-use Rattle.field.proofs.Fields.{width-append, length-putAll, putAll-bytes, putAll-holds, putAll-other, holds-fitting, holds-bits}
+use Rattle.field.proofs.Fields.{width-append, length-putAll, putAll-bytes, putAll-holds, putAll-other, putAll-rest, holds-fitting, holds-bits}
 use Rattle.field.proofs.Put.{field-ext, bits-ext}
 use Rattle.sheet.specs.declared.Plan.{Plan}
 use Rattle.sheet.specs.declared.Reading.{Reading}
+use Rattle.sheet.specs.declared.Written.{Written}
 use Rattle.sheet.specs.Plan.{componentsOf, codesOf, cleanedPlan}
 use Rattle.sheet.specs.Rules.{Sized}
 use Rattle.sheet.specs.Reading.{planIn, readOf}
-use Rattle.sheet.specs.Writing.{numberOf, lengthOf, blockFields, structureFields, sheetFields, writtenOf, bytesAfter}
-use Rattle.sheet.proofs.Accepted.{sized, number-accepts, accepts-number, written-number, written-length, accepted-bytes, Accepted}
+use Rattle.sheet.specs.Writing.{numberOf, lengthOf, written, blockFields, structureFields, sheetFields, writtenOf, bytesAfter}
+use Rattle.sheet.proofs.Accepted.{sized, number-accepts, accepts-number, written-number, written-length, refuses-length, refused-stays, accepted-bytes, Accepted}
 use Rattle.sheet.proofs.Fits.{sheet-fits}
 use Rattle.sheet.specs.Kept.{Kept}
 use Rattle.sheet.proofs.Premises.{kept}
@@ -60,6 +61,22 @@ module _ (p : Plan) (room : ℕ) (e : (writtenOf p room) .number ≡ 0) where
   pub written-longest : lengthOf p ≤ 224
   unfolding lengthOf
   written-longest = omega (arith, end-most p sized-plan, written-keeps .most)
+
+no-length : (p : Plan) (room k : ℕ) → 0 < k → numberOf p room ≡ k → (writtenOf p room) .length ≡ 0
+unfolding writtenOf
+no-length p room k h e = ap (λ n. (written n (lengthOf p)) .length) e ∙ ap (λ (w : Written). w .length) (refuses-length k (lengthOf p) (λ z. omega arith))
+
+-- A refused plan leaves the buffer, an accepted one the bytes behind the sheet.
+pub nothing-written : (p : Plan) (s : List ℕ) (k : ℕ) → 0 < k → (writtenOf p (length s)) .number ≡ k → ((writtenOf p (length s)) .length ≡ 0) × (bytesAfter p s ≡ s)
+nothing-written p s k h e =
+    let n : numberOf p (length s) ≡ k = sym (written-number p (length s)) ∙ e in
+    (no-length p (length s) k h n, refused-stays p s (λ z. omega arith))
+
+pub rest-kept : (p : Plan) (s : List ℕ) → (writtenOf p (length s)) .number ≡ 0
+    → drop ((writtenOf p (length s)) .length) (bytesAfter p s) ≡ drop ((writtenOf p (length s)) .length) s
+rest-kept p s e =
+    rw (written-sheet p (length s) e, accepted-bytes p s (sym (written-number p (length s)) ∙ e))
+    (putAll-rest s 0 (sheetFields p) (lengthOf p) (omega (arith, width-sheet p (written-keeps p (length s) e .least))))
 
 -- A written sheet reads as its plan: the same in the used places, zero in the others.
 pub written-is-read : (p : Plan) (s : List ℕ) → (writtenOf p (length s)) .number ≡ 0

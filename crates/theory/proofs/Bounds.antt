@@ -26,7 +26,7 @@ module _ (es : List Entry) {cs : List Component} (r : AllInRange cs) where
   tight-high : (d a b : ℕ) → ((D : Division cs) → ShareAtMost es cs D d a b) → plausibility d (outcomes es cs) * b ≤ a * total cs
   tight-high d a b h = rw (highs-meet r es d, total-at-one cs) at (h allHigh)
 
-  pub bounds : Bounds es cs (λ d. belief d (outcomes es cs)) (λ d. plausibility d (outcomes es cs))
+  pub bounds : Bounds es cs (total cs) (λ d. belief d (outcomes es cs)) (λ d. plausibility d (outcomes es cs))
   bounds = record {
     least = λ D d. share-at-least (D .scale) es (D .divides) d;
     greatest = λ D d. share-at-most (D .scale) es (D .divides) d;

@@ -2,7 +2,6 @@
 use Prim.Native.Nat.{ℕ, _*_, _≤_}
 use mathlib.Core.Path.{_≡_}
 use mathlib.Core.List.{List}
-use Rattle.theory.specs.Focal.{total}
 use Rattle.theory.specs.Structure.{Entry}
 use Rattle.theory.specs.Division.{Division, shareAbove, shareTotal}
 use Rattle.theory.specs.declared.Component.{Component}
@@ -18,14 +17,14 @@ module _ (es : List Entry) (cs : List Component) where
   abbrev pub ShareIs : Division cs → ℕ → ℕ → ℕ → Type 0
   ShareIs D d a b = shareAbove es (D .parts) d * b ≡ a * shareTotal (D .scale) cs
 
--- `low` and `high`, each over the total U, at every demand d:
-pub record Bounds (es : List Entry) (cs : List Component) (low high : ℕ → ℕ) : Type 0 where
+-- `low` and `high`, each over `whole`, at every demand d:
+pub record Bounds (es : List Entry) (cs : List Component) (whole : ℕ) (low high : ℕ → ℕ) : Type 0 where
   -- no division has a share below the one or above the other;
-  pub least : (D : Division cs) (d : ℕ) → ShareAtLeast es cs D d (low d) (total cs)
-  pub greatest : (D : Division cs) (d : ℕ) → ShareAtMost es cs D d (high d) (total cs)
+  pub least : (D : Division cs) (d : ℕ) → ShareAtLeast es cs D d (low d) whole
+  pub greatest : (D : Division cs) (d : ℕ) → ShareAtMost es cs D d (high d) whole
   -- one division meets the one at every demand, and one the other;
-  pub least-met : (D : Division cs) × ((d : ℕ) → ShareIs es cs D d (low d) (total cs))
-  pub greatest-met : (D : Division cs) × ((d : ℕ) → ShareIs es cs D d (high d) (total cs))
+  pub least-met : (D : Division cs) × ((d : ℕ) → ShareIs es cs D d (low d) whole)
+  pub greatest-met : (D : Division cs) × ((d : ℕ) → ShareIs es cs D d (high d) whole)
   -- so at any one demand no fraction a / b that bounds every division is better.
-  pub least-tight : (d a b : ℕ) → ((D : Division cs) → ShareAtLeast es cs D d a b) → a * total cs ≤ low d * b
-  pub greatest-tight : (d a b : ℕ) → ((D : Division cs) → ShareAtMost es cs D d a b) → high d * b ≤ a * total cs
+  pub least-tight : (d a b : ℕ) → ((D : Division cs) → ShareAtLeast es cs D d a b) → a * whole ≤ low d * b
+  pub greatest-tight : (d a b : ℕ) → ((D : Division cs) → ShareAtMost es cs D d a b) → high d * b ≤ a * whole

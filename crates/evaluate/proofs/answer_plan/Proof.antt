@@ -3,10 +3,10 @@ use mathlib.Core.Path.{_≡_, sym, ap, _∙_}
 use mathlib.Core.List.{List, _++_}
 use Prim.Native.Nat.{ℕ}
 use lib.ListN.{drop}
-use Rattle.evaluate.specs.Answer.{storeBytes, planList, run, ended, ranOf}
+use Rattle.evaluate.specs.Answer.{storeBytes, planList, ran}
 use Rattle.evaluate.specs.Store.{filled, storeBy}
 use Rattle.evaluate.specs.declared.Ran.{Ran}
-use Rattle.evaluate.proofs.Answering.{Accepts, refuses, accepts, same-number, whole-store, readable, shares-are}
+use Rattle.evaluate.proofs.Answering.{Accepts, refuses, accepts, whole-store, readable, shares-are}
 use borrow.Author.Needs.{needs}
 use Rattle.evaluate.proofs.answer_plan.Statement.{statement}
 use Rattle.evaluate.proofs.answer_plan.Tie as tie
@@ -19,14 +19,10 @@ module _ (c : tie.After-run-plan) where
   abbrev after : List ℕ
   after = c .run-plan .last .1 .1 .0 ++ drop storeBytes (start .args .store .now)
 
-  stored : after ≡ storeBy (ranOf (run (start .args .p) (start .args .allowance)) (start .args .p) .number) (planList (start .args .p)) (start .args .store .now)
+  stored : after ≡ storeBy ((ran (start .args .p) (start .args .allowance)) .number) (planList (start .args .p)) (start .args .store .now)
   stored =
       ap (λ (x : List ℕ). x ++ drop storeBytes (start .args .store .now)) (c .run-plan .ensures .1)
-      ∙ whole-store (start .args .store .now) (start .pre .1) (ranOf (run (start .args .p) (start .args .allowance)) (start .args .p) .number) (planList (start .args .p))
-
-  answered : after ≡ storeBy (ended (run (start .args .p) (start .args .allowance)) (start .args .p) (start .args .demand) .number) (planList (start .args .p)) (start .args .store .now)
-  answered =
-      stored ∙ ap (λ n. storeBy n (planList (start .args .p)) (start .args .store .now)) (sym (same-number (run (start .args .p) (start .args .allowance)) (start .args .p) (start .args .demand)))
+      ∙ whole-store (start .args .store .now) (start .pre .1) ((ran (start .args .p) (start .args .allowance)) .number) (planList (start .args .p))
 
   module _ (z : c .run-plan .result .number ≡ 0) where
     accepted : Accepts (start .args .p) (start .args .allowance) (c .run-plan .result)
@@ -58,7 +54,7 @@ returns : tie.Need-returns
 returns c =
     let r = c .before .before .before .before in
     let s = start r in
-    (c .refuse .ensures ∙ refuses (s .args .p) (s .args .allowance) (r .run-plan .result) (r .run-plan .ensures .0) (s .args .demand) (c .before .if1 .taken), answered r)
+    (c .refuse .ensures ∙ refuses (s .args .p) (s .args .allowance) (r .run-plan .result) (r .run-plan .ensures .0) (s .args .demand) (c .before .if1 .taken), stored r)
 
 shares-at-requires : tie.Need-shares-at-requires
 shares-at-requires c κs =
@@ -89,7 +85,7 @@ returns-2 c =
         pairs = r .run-plan .result .pairs;
         intervals = A .length-is i;
       }),
-      answered r,
+      stored r,
     )
 
 pub answer-plan-spec : {M : Type 1} → statement M

@@ -8,7 +8,7 @@ use Rattle.sheet.specs.declared.Reading.{Reading}
 use Rattle.sheet.specs.Kept.{Kept}
 use Rattle.sheet.specs.Reading.{readOf}
 use Rattle.sheet.proofs.Theorems.{read-keeps}
-use Rattle.evaluate.specs.Answer.{refusal, planList, run, ended}
+use Rattle.evaluate.specs.Answer.{refusal, planList, ran, planAnswer}
 use Rattle.evaluate.specs.Store.{storeBy}
 use Rattle.evaluate.proofs.Cases.{unread-call, short-call, run-call}
 use borrow.Author.Needs.{needs}
@@ -68,8 +68,8 @@ returns-3 c =
     let s = start r in
     let p = r .read-sheet .result .plan in
     let call = run-call (sheet r) (s .args .demand) (s .args .allowance) (s .args .store .now) (sym (number-is r) ∙ a .before .before .before .before .if1 .left) (a .before .before .before .if2 .left) in (
-      a .answer-plan .ensures .0 ∙ (ap (λ (q : Plan). ended (run q (s .args .allowance)) q (s .args .demand)) (plan-is r) ∙ call .0),
-      a .answer-plan .ensures .1 ∙ (ap (λ (q : Plan). storeBy (ended (run q (s .args .allowance)) q (s .args .demand) .number) (planList q) (s .args .store .now)) (plan-is r) ∙ call .1),
+      a .answer-plan .ensures .0 ∙ (ap (λ (q : Plan). planAnswer q (s .args .demand) (s .args .allowance)) (plan-is r) ∙ call .0),
+      a .answer-plan .ensures .1 ∙ (ap (λ (q : Plan). storeBy ((ran q (s .args .allowance)) .number) (planList q) (s .args .store .now)) (plan-is r) ∙ call .1),
     )
 
 pub bounds-spec : {M : Type 1} → statement M
