@@ -4,7 +4,8 @@
  * and answers the share of time at which the drive meets the demand, as two whole-number shares of one total:
  *   belief         the share that the modules' records vouch for;
  *   plausibility   the share that nothing in the records rules out.
- * Both are exact. The call also gives the drive's list of speed intervals with their weights.
+ * Belief adds the weights of the drive's list whose low is at least the demand, plausibility those whose high is. Both are exact, and
+ * hold wherever inside its interval each module ran, as long as the modules are independent of each other.
  *
  * Link libdrive.a (x86-64 Linux, System V calling convention):   cc -Ihost program.c target/staticlib/libdrive.a
  *

@@ -15,8 +15,10 @@ struct bench {
 static uint8_t list[DRIVE_LIST_BYTES], answer[DRIVE_ANSWER_BYTES];
 static uint8_t plain_list[DRIVE_LIST_BYTES], plain_answer[DRIVE_ANSWER_BYTES];
 
+static size_t room = sizeof list;
+
 static uint32_t call(bounds_fn *f, const struct sheet *s) {
-    return f(s->bytes, s->length, 7, DRIVE_PAIRS_MAX, list, sizeof list, answer, sizeof answer);
+    return f(s->bytes, s->length, 7, DRIVE_PAIRS_MAX, list, room, answer, sizeof answer);
 }
 
 /* The pair count of the sheet; both must answer alike, and accept. */
@@ -136,6 +138,15 @@ int main(int argc, char **argv) {
         time_both(&rows[i].sheet, &drive, &plain);
         printf("%-22s %9llu %11.0f %11.0f %7.2f\n", rows[i].name, (unsigned long long)pairs, drive, plain, drive / plain);
     }
+
+    printf("\nReading alone: with no list buffer the call ends with 12 when the sheet is read and tested\n\n");
+    printf("%-22s %9s %11s %11s %7s\n", "sheet", "bytes", "call", "plain C", "ratio");
+    room = 0;
+    for (unsigned i = 0; i < ROWS; i += ROWS - 1) {
+        time_both(&rows[i].sheet, &drive, &plain);
+        printf("%-22s %9zu %11.0f %11.0f %7.2f\n", rows[i].name, rows[i].sheet.length, drive, plain, drive / plain);
+    }
+    room = sizeof list;
 
     printf("\nGrowth with the pair count: two lists of single speeds in series; ns for each pair more than in the line before\n\n");
     printf("%-22s %9s %11s %11s %7s %12s\n", "lists", "pairs", "call", "plain C", "ratio", "call, ns/pair");

@@ -19,7 +19,7 @@ use Rattle.theory.specs.declared.Component.{Component}
 use Rattle.theory.specs.declared.Join.{Join}
 use Rattle.theory.proofs.Every.{every-getD, every-map, index-of-every}
 use Rattle.theory.proofs.Collect.{weighty-collect, collect-fixed}
-use Rattle.theory.proofs.Steps.{weighty-choicesOf, listOf-node}
+use Rattle.theory.proofs.Steps.{weighty-outcomesOf, listOf-node}
 use Rattle.theory.proofs.Structure.{named-length, leafCount, run-leaves}
 use Rattle.theory.proofs.Totals.{speeds-fit, product-fits, weight-fits}
 use Rattle.lists.specs.Records.{recordBytes, listBytes, Under, operandLimit, speedLimit}
@@ -274,7 +274,7 @@ module _ {p : Plan} (K : Kept p) {allowance i : ℕ} {store : List ℕ} {st : St
     join-under = (rw is-left (small x (omega (arith, leaves-there))), rw is-right (small y (omega (arith, leaves-there))))
 
     pub join-weighty : Every Weighty (left store st) × Every Weighty (right store st)
-    join-weighty = (rw is-left (weighty-collect (weighty-choicesOf (K .weighty) x)), rw is-right (weighty-collect (weighty-choicesOf (K .weighty) y)))
+    join-weighty = (rw is-left (weighty-collect (weighty-outcomesOf (K .weighty) x)), rw is-right (weighty-collect (weighty-outcomesOf (K .weighty) y)))
 
     pub join-weights : weights (left store st) * weights (right store st) < 2 ^ 64
     join-weights = rw (is-left, is-right) (product-fits (every-map (λ c r. r .1) (K .totals)) (K .balanced) x y leaves-there)

@@ -15,7 +15,7 @@ use Rattle.theory.specs.Lists.{joinLists, noComponent, listOf}
 use Rattle.theory.proofs.Every.{every-map, every-getD}
 use Rattle.theory.proofs.Collect.{weighty-collect}
 use Rattle.theory.proofs.Lists.{length-collect}
-use Rattle.theory.proofs.Steps.{weighty-pairs, weighty-choicesOf, listOf-node}
+use Rattle.theory.proofs.Steps.{weighty-pairs, weighty-outcomesOf, listOf-node}
 use Rattle.theory.proofs.Totals.{speeds-fit, product-fits, weight-fits}
 use Rattle.lists.specs.declared.Joined.the-variants.{Made}
 use Rattle.lists.specs.Records.{Under, listBytes, speedLimit, operandLimit}
@@ -31,7 +31,7 @@ module _ {cs : List Component} (w : AllWeighty cs) (range : AllInRange cs) (bala
   -- ---- what a join asks of its operands
 
   pub list-weighty : (t : Tree) → Every Weighty (listOf cs t)
-  list-weighty t = weighty-collect (weighty-choicesOf w t)
+  list-weighty t = weighty-collect (weighty-outcomesOf w t)
 
   pub list-under : (t : Tree) → length (leaves t) ≤ 6 → Every (Under operandLimit) (listOf cs t)
   list-under t h = speeds-fit range t h

@@ -14,11 +14,11 @@ use Rattle.theory.specs.Focal.{Focal, masses, Weighty, AllWeighty}
 use Rattle.theory.specs.Joins.{joined}
 use Rattle.theory.specs.Structure.{Entry, Tree, leaf, node, trees, leaves}
 use Rattle.theory.specs.Choices.{choices, lows, highs, outcome, outcomes}
-use Rattle.theory.specs.Lists.{driveList, noComponent, choicesOf, listOf}
+use Rattle.theory.specs.Lists.{driveList, noComponent, outcomesOf, listOf}
 use Rattle.theory.specs.declared.Component.{Component}
 use Rattle.theory.proofs.Sums.{sum-ext, sum-scale, sum-map, sum-append, sum-swap, sum-oneOfEach}
 use Rattle.theory.proofs.Collect.{weigh, same-collect}
-use Rattle.theory.proofs.Steps.{weigh-pairs, weighty-choicesOf, speedOf, Φ-tree}
+use Rattle.theory.proofs.Steps.{weigh-pairs, weighty-outcomesOf, speedOf, Φ-tree}
 use Rattle.theory.proofs.Every.{every-image, every-oneOfEach}
 
 -- a sub-structure that names every component below n once, and no other
@@ -121,7 +121,7 @@ module _ (cs : List Component) where
       (speedOf-agree e z r u w (λ j p. h j (omega (arith, sum-append (λ i. cond (eqb j i) 1 0) (leaves l) (leaves r)))))
 
   over-tree : (t : Tree) (k : ℕ → ℕ → ℕ) (v : List Focal) → ((j : ℕ) → countOf j (leaves t) ≤ 1) → ((j : ℕ) → 0 < countOf j (leaves t) → j < length v)
-      → weigh k (choicesOf cs t) ≡ over (leaves t) v (λ u. k (speedOf (lows u) t) (speedOf (highs u) t))
+      → weigh k (outcomesOf cs t) ≡ over (leaves t) v (λ u. k (speedOf (lows u) t) (speedOf (highs u) t))
   over-tree (leaf i) k v d h =
       let l : i < length v = h i (rw (eq-eqb i i refl) (omega arith)) in
       sum-ext (λ f. ap (f .weight *_) (sym (ap₂ k
@@ -129,8 +129,8 @@ module _ (cs : List Component) where
       (List·getD-map (λ x. x .high) (set v i f) i noFocal ∙ ap (λ (x : Focal). x .high) (getD-set-same v i f noFocal l))))) (focalsAt i)
   over-tree (node op l r) k v d h =
       let c : (j : ℕ) → countOf j (leaves l ++ leaves r) ≡ countOf j (leaves l) + countOf j (leaves r) = λ j. sum-append (λ i. cond (eqb j i) 1 0) (leaves l) (leaves r) in
-      weigh-pairs k op (choicesOf cs l) (choicesOf cs r)
-      ∙ (over-tree l (λ a b. weigh (λ x y. k (joined op a x) (joined op b y)) (choicesOf cs r)) v (λ j. omega (arith, d j, c j)) (λ j p. h j (omega (arith, c j)))
+      weigh-pairs k op (outcomesOf cs l) (outcomesOf cs r)
+      ∙ (over-tree l (λ a b. weigh (λ x y. k (joined op a x) (joined op b y)) (outcomesOf cs r)) v (λ j. omega (arith, d j, c j)) (λ j p. h j (omega (arith, c j)))
       ∙ (over-ext (leaves l) v _ _ (λ u n a.
       over-tree r (λ x y. k (joined op (speedOf (lows u) l) x) (joined op (speedOf (highs u) l) y)) u (λ j. omega (arith, d j, c j)) (λ j p. omega (arith, n, h j (omega (arith, c j))))
       ∙ over-ext (leaves r) u _ _ (λ w m b. sym (ap₂ k
@@ -196,7 +196,7 @@ bit-le false = omega arith
 
 -- Every weighted sum over the drive's outcomes is that over the choices of the tree.
 pub weigh-outcomes : (cs : List Component) (es : List Entry) (t : Tree) → trees es ≡ t ∷ [] → NamesEach (length cs) t
-    → (k : ℕ → ℕ → ℕ) → weigh k (outcomes es cs) ≡ weigh k (choicesOf cs t)
+    → (k : ℕ → ℕ → ℕ) → weigh k (outcomes es cs) ≡ weigh k (outcomesOf cs t)
 weigh-outcomes cs es t e names k =
     let w : List Focal → ℕ = productBy (λ f. f .weight) in
     let v : List Focal = map (λ c. noFocal) cs in
@@ -225,4 +225,4 @@ weighty-outcomes es p = every-image (outcome es) (λ ch. product-positive) (ever
 -- The drive's list is the list of the tree that the structure leaves.
 pub drive-is-tree : {cs : List Component} → AllWeighty cs → (es : List Entry) (t : Tree) → trees es ≡ t ∷ [] → NamesEach (length cs) t
     → driveList es cs ≡ listOf cs t
-drive-is-tree {cs} p es t e names = same-collect (weighty-outcomes es p) (weighty-choicesOf p t) (weigh-outcomes cs es t e names)
+drive-is-tree {cs} p es t e names = same-collect (weighty-outcomes es p) (weighty-outcomesOf p t) (weigh-outcomes cs es t e names)

@@ -36,11 +36,7 @@ pub every-oneOfEach : {A : Type 0} {P : A → Type 0} {ls : List (List A)} → E
 every-oneOfEach Every.none = Every.more Every.none Every.none
 every-oneOfEach (Every.more {xs = ls} p r) = every-each p (oneOfEach ls) (every-oneOfEach r)
 
--- from facts about each index, as a loop gives them
-pub every-of-index : {A : Type 0} {P : A → Type 0} (z : A) (xs : List A) → ((i : ℕ) → i < length xs → P (getD xs i z)) → Every P xs
-every-of-index z [] h = Every.none
-every-of-index z (x ∷ xs) h = Every.more (h 0 (omega arith)) (every-of-index z xs (λ i p. h (suc i) (omega arith)))
-
+-- an element within the list
 pub index-of-every : {A : Type 0} {P : A → Type 0} (z : A) {xs : List A} → Every P xs → (i : ℕ) → i < length xs → P (getD xs i z)
 index-of-every z Every.none i h = absurd (omega arith)
 index-of-every z (Every.more p r) zero h = p

@@ -1,18 +1,18 @@
 -- What code that keeps a list in order by putting in one interval at a time needs. Assumes nothing.
-use Prim.Native.Nat.{ℕ, suc, _*_, _≤_, _<_, Ordering, Ordering·lt, Ordering·eq, Ordering·gt}
+use Prim.Native.Nat.{ℕ, suc, _*_, _≤_, Ordering, Ordering·lt, Ordering·eq, Ordering·gt}
 use mathlib.Core.Path.{_≡_, refl, sym, ap, _∙_}
 use mathlib.Core.Logic.{inl, inr}
 use mathlib.Core.List.{List, [], _∷_, _++_}
 use native.Mathlib.Nat.{mul-one}
 use native.Mathlib.Omega.{arith}
-use lib.ListN.{length, getD}
+use lib.ListN.{length}
 use Rattle.theory.specs.Sums.{Every}
 use Rattle.theory.specs.Focal.{Focal, weights, Weighty}
 use Rattle.theory.specs.Choices.{belief, plausibility}
-use Rattle.theory.specs.Lists.{order, Before, InOrder, merged, insertAt, insert, collect}
+use Rattle.theory.specs.Lists.{order, Before, merged, insertAt, insert, collect}
 use Rattle.theory.proofs.Sums.{sum-ext, sum-append}
 use Rattle.theory.proofs.Order.{Placed, placed, before-trans}
-use Rattle.theory.proofs.Collect.{weigh, weigh-collect, same-collect, belief-weigh, plausibility-weigh, before-all}
+use Rattle.theory.proofs.Collect.{weigh, weigh-collect, same-collect, belief-weigh, plausibility-weigh}
 use Rattle.theory.proofs.Every.{every-append}
 
 never : (f g : Focal) → f .low ≡ g .low → f .high ≡ g .high → Before f g → ⊥
@@ -89,12 +89,3 @@ weights-weigh fs = sum-ext (λ f. sym (mul-one (f .weight))) fs
 
 pub weights-collect : (fs : List Focal) → weights (collect fs) ≡ weights fs
 weights-collect fs = weights-weigh (collect fs) ∙ (weigh-collect _ fs ∙ sym (weights-weigh fs))
-
--- each before its next is enough for the order
-pub order-of-next : (z : Focal) (fs : List Focal) → ((i : ℕ) → suc i < length fs → Before (getD fs i z) (getD fs (suc i) z)) → InOrder fs
-order-of-next z [] h = InOrder.none
-order-of-next z (f ∷ []) h = InOrder.more Every.none InOrder.none
-order-of-next z (f ∷ g ∷ gs) h = go (order-of-next z (g ∷ gs) (λ i p. h (suc i) (omega arith)))
-  where
-    go : InOrder (g ∷ gs) → InOrder (f ∷ g ∷ gs)
-    go (InOrder.more b r) = InOrder.more (before-all f g (h 0 (omega arith)) b) (InOrder.more b r)

@@ -8,7 +8,7 @@ use Rattle.theory.specs.Sums.{Every}
 use Rattle.theory.specs.Focal.{Focal, masses, Weighty, AllWeighty}
 use Rattle.theory.specs.Joins.{joined, joinedFocal, pairs}
 use Rattle.theory.specs.Structure.{Entry, component, join, step, run, Φ, Tree, leaf, node, trees}
-use Rattle.theory.specs.Lists.{collect, noComponent, choicesOf, listOf}
+use Rattle.theory.specs.Lists.{collect, noComponent, outcomesOf, listOf}
 use Rattle.theory.specs.Division.{speeds}
 use Rattle.theory.specs.declared.Component.{Component}
 use Rattle.theory.specs.declared.Join.{Join}
@@ -43,13 +43,13 @@ collect-pairs op {fs} {gs} p q =
     ∙ (sym (weigh-collect (λ a b. weigh (λ c d. k (joined op a c) (joined op b d)) (collect gs)) fs)
     ∙ sym (weigh-pairs k op (collect fs) (collect gs)))))
 
-pub weighty-choicesOf : {cs : List Component} → AllWeighty cs → (t : Tree) → Every Weighty (choicesOf cs t)
-weighty-choicesOf p (leaf i) = every-getD (λ c. Every Weighty (masses c)) noComponent Every.none p i
-weighty-choicesOf p (node op l r) = weighty-pairs op (weighty-choicesOf p l) (weighty-choicesOf p r)
+pub weighty-outcomesOf : {cs : List Component} → AllWeighty cs → (t : Tree) → Every Weighty (outcomesOf cs t)
+weighty-outcomesOf p (leaf i) = every-getD (λ c. Every Weighty (masses c)) noComponent Every.none p i
+weighty-outcomesOf p (node op l r) = weighty-pairs op (weighty-outcomesOf p l) (weighty-outcomesOf p r)
 
 pub listOf-node : {cs : List Component} → AllWeighty cs → (op : Join) (l r : Tree)
     → listOf cs (node op l r) ≡ collect (pairs op (listOf cs l) (listOf cs r))
-listOf-node p op l r = collect-pairs op (weighty-choicesOf p l) (weighty-choicesOf p r)
+listOf-node p op l r = collect-pairs op (weighty-outcomesOf p l) (weighty-outcomesOf p r)
 
 -- One run of the entries is the image of another.
 module _ {A B : Type 0} (h : A → B) (la : ℕ → A) (ba : Join → A → A → A) (lb : ℕ → B) (bb : Join → B → B → B)

@@ -11,7 +11,7 @@ use Rattle.theory.specs.Focal.{topSpeed, Focal, masses, weights, total, 
 use Rattle.theory.specs.Joins.{joined, joinedFocal, pairs}
 use Rattle.theory.specs.Structure.{Entry, Tree, leaf, node, leaves}
 use Rattle.theory.specs.Choices.{choices, outcome, outcomes}
-use Rattle.theory.specs.Lists.{merged, collect, driveList, noComponent, choicesOf, listOf}
+use Rattle.theory.specs.Lists.{merged, collect, driveList, noComponent, outcomesOf, listOf}
 use Rattle.theory.specs.declared.Component.{Component}
 use Rattle.theory.specs.declared.Join.{Join}
 use Rattle.theory.specs.declared.Join.the-variants.{Series, Shared, Spare}
@@ -36,14 +36,14 @@ product-append f (x ∷ xs) ys = ap (f x *_) (product-append f xs ys) ∙ sym (m
 abbrev pub totalOf : List Component → Tree → ℕ
 totalOf cs t = productBy (λ i. (getD cs i noComponent) .total) (leaves t)
 
-weights-choicesOf : {cs : List Component} → Balanced cs → (t : Tree) → weights (choicesOf cs t) ≡ totalOf cs t
-weights-choicesOf p (leaf i) = every-getD (λ c. weights (masses c) ≡ c .total) noComponent refl p i ∙ sym (mul-one _)
-weights-choicesOf {cs} p (node op l r) =
-    weights-pairs op (choicesOf cs l) (choicesOf cs r)
-    ∙ (ap₂ _*_ (weights-choicesOf p l) (weights-choicesOf p r) ∙ sym (product-append (λ i. (getD cs i noComponent) .total) (leaves l) (leaves r)))
+weights-outcomesOf : {cs : List Component} → Balanced cs → (t : Tree) → weights (outcomesOf cs t) ≡ totalOf cs t
+weights-outcomesOf p (leaf i) = every-getD (λ c. weights (masses c) ≡ c .total) noComponent refl p i ∙ sym (mul-one _)
+weights-outcomesOf {cs} p (node op l r) =
+    weights-pairs op (outcomesOf cs l) (outcomesOf cs r)
+    ∙ (ap₂ _*_ (weights-outcomesOf p l) (weights-outcomesOf p r) ∙ sym (product-append (λ i. (getD cs i noComponent) .total) (leaves l) (leaves r)))
 
 pub weights-listOf : {cs : List Component} → Balanced cs → (t : Tree) → weights (listOf cs t) ≡ totalOf cs t
-weights-listOf {cs} p t = weights-collect (choicesOf cs t) ∙ weights-choicesOf p t
+weights-listOf {cs} p t = weights-collect (outcomesOf cs t) ∙ weights-outcomesOf p t
 
 weights-choices : {cs : List Component} → Balanced cs → sumBy (productBy (λ f. f .weight)) (choices cs) ≡ total cs
 weights-choices Every.none = refl
@@ -95,10 +95,10 @@ pub pairs-tall : (m n : ℕ) (op : Join) {fs gs : List Focal} → Every (Tall m)
 pairs-tall m n op Every.none q = Every.none
 pairs-tall m n op (Every.more {x = f} p r) q = every-append (joins-tall m n op f p q) (pairs-tall m n op r q)
 
-tall-choicesOf : {cs : List Component} → Every (λ c. Every (Tall 1) (masses c)) cs → (t : Tree) → Every (Tall (length (leaves t))) (choicesOf cs t)
-tall-choicesOf p (leaf i) = every-getD (λ c. Every (Tall 1) (masses c)) noComponent Every.none p i
-tall-choicesOf p (node op l r) =
-    rw (length-append (leaves l) (leaves r)) (pairs-tall (length (leaves l)) (length (leaves r)) op (tall-choicesOf p l) (tall-choicesOf p r))
+tall-outcomesOf : {cs : List Component} → Every (λ c. Every (Tall 1) (masses c)) cs → (t : Tree) → Every (Tall (length (leaves t))) (outcomesOf cs t)
+tall-outcomesOf p (leaf i) = every-getD (λ c. Every (Tall 1) (masses c)) noComponent Every.none p i
+tall-outcomesOf p (node op l r) =
+    rw (length-append (leaves l) (leaves r)) (pairs-tall (length (leaves l)) (length (leaves r)) op (tall-outcomesOf p l) (tall-outcomesOf p r))
 
 -- what speaks only of the interval stays true of each
 every-collect : (P : Focal → Type 0) → ((f g : Focal) → P f → P g → P (merged f g))
@@ -107,7 +107,7 @@ every-collect P m Every.none = Every.none
 every-collect P m (Every.more {x = f} p r) = every-insert P m f p (every-collect P m r)
 
 pub tall-listOf : {cs : List Component} → Every (λ c. Every (Tall 1) (masses c)) cs → (t : Tree) → Every (Tall (length (leaves t))) (listOf cs t)
-tall-listOf p t = every-collect (Tall (length (leaves t))) (λ f g h k. record { upright = k .upright; below = k .below }) (tall-choicesOf p t)
+tall-listOf p t = every-collect (Tall (length (leaves t))) (λ f g h k. record { upright = k .upright; below = k .below }) (tall-outcomesOf p t)
 
 -- What is formed fits its place, of components in range whose totals are at most 1,000, under up to six leaves: a weight 64 bits, a speed
 -- 15, so that the speeds of a join fit 16.

@@ -1,10 +1,11 @@
--- The drive calculation as document 01 defines it, in its order: "Words", "Joins", "Pairs, allowance and store".
+-- The drive calculation as document 01 defines it, in its order: "Words", "Joins", "Pairs, allowance and store", and the bounds that
+-- demand 3 asks for.
 pub mod Sums
 pub mod Focal
 pub mod Joins
 pub mod Structure
+pub mod Division
 pub mod Choices
 pub mod Lists
 pub mod Evaluation
-pub mod Division
 pub mod Bounds

@@ -61,11 +61,11 @@ joinLists op fs gs = collect (pairs op fs gs)
 abbrev pub noComponent : Component
 noComponent = record { lows = []; highs = []; weights = []; count = 0; total = 0 }
 
--- every choice of one interval for each component of a sub-structure
-abbrev pub choicesOf : List Component → Tree → List Focal
-choicesOf cs (leaf i) = masses (getD cs i noComponent)
-choicesOf cs (node op l r) = pairs op (choicesOf cs l) (choicesOf cs r)
+-- what every choice of one interval for each component of a sub-structure comes to
+abbrev pub outcomesOf : List Component → Tree → List Focal
+outcomesOf cs (leaf i) = masses (getD cs i noComponent)
+outcomesOf cs (node op l r) = pairs op (outcomesOf cs l) (outcomesOf cs r)
 
 -- the list of a sub-structure
 abbrev pub listOf : List Component → Tree → List Focal
-listOf cs t = collect (choicesOf cs t)
+listOf cs t = collect (outcomesOf cs t)
