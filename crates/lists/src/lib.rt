@@ -25,6 +25,11 @@ const MOST: usize = 256;
 // the bytes of the longest list
 const LIST: usize = RECORD * MOST;
 
+// the most intervals of a short list, and its bytes
+const FEW: usize = 16;
+
+const SHORT: usize = RECORD * FEW;
+
 // how many speeds a record's low, or its high, can be
 const SPEEDS: u64 = 65536;
 
@@ -187,10 +192,10 @@ pub fn shift(s: &mut [u8], from: usize, to: usize)
     requires { ⌜ to + recordBytes ≤ length (now s) ⌝ }
     ensures { λ _. ⌜ now (s .exit) ≡ take (from + recordBytes) (now (s .entry)) ++ (take (to - from) (drop from (now (s .entry))) ++ drop (to + recordBytes) (now (s .entry))) ⌝ }
 {
-    let mut j = to;
-    while from < j {
-        j -= 1;
-        s[j + RECORD] = s[j];
+    let mut k = to - from;
+    while 0 < k {
+        k -= 1;
+        s[from + RECORD + k] = s[from + k];
     }
 }
 
@@ -296,7 +301,45 @@ pub fn join_lists(op: Join, a: &[u8], na: usize, b: &[u8], nb: usize, out: &mut 
     m
 }
 
-// Joins two lists of a store into its free rest: na records from byte `left` on and nb from byte `right` on, copied out first.
+// Joins two lists of a store into its free rest: na records from byte `left` on and nb from byte `right` on, copied first to the front
+// of a and of b.
+pub fn join_copied(
+    op: Join,
+    a: &mut [u8],
+    b: &mut [u8],
+    store: &mut [u8],
+    left: usize,
+    na: usize,
+    right: usize,
+    nb: usize,
+    free: usize,
+) -> Joined
+    requires { ⌜ (recordBytes * na ≤ length (now a)) × (recordBytes * nb ≤ length (now b)) ⌝ }
+    requires { ⌜ (left + recordBytes * na ≤ length (now store)) × (right + recordBytes * nb ≤ length (now store)) × (free + listBytes ≤ length (now store)) ⌝ }
+    requires { ⌜ Every (Under operandLimit) (listIn (now store) left na) × Every (Under operandLimit) (listIn (now store) right nb) ⌝ }
+    requires { ⌜ Every Weighty (listIn (now store) left na) × Every Weighty (listIn (now store) right nb) ⌝ }
+    requires { ⌜ weights (listIn (now store) left na) * weights (listIn (now store) right nb) < 2 ^ 64 ⌝ }
+    ensures { λ r. ⌜ r ≡ joinedAs (collect (pairsIn op (now (store .entry)) left na right nb)) ⌝ }
+    ensures { λ r. ⌜ joinNumber r ≡ numberOfJoin (collect (pairsIn op (now (store .entry)) left na right nb)) ⌝ }
+    ensures { λ r. ⌜ joinLength r ≡ lengthOfJoin (collect (pairsIn op (now (store .entry)) left na right nb)) ⌝ }
+    ensures { λ _. ⌜ now (store .exit) ≡ holdingFrom (now (store .entry)) free (fill [] (pairsIn op (now (store .entry)) left na right nb) .list) ⌝ }
+    ensures { λ _. ⌜ now (a .exit) ≡ take (recordBytes * na) (drop left (now (store .entry))) ++ drop (recordBytes * na) (now (a .entry)) ⌝ }
+    ensures { λ _. ⌜ now (b .exit) ≡ take (recordBytes * nb) (drop right (now (store .entry))) ++ drop (recordBytes * nb) (now (b .entry)) ⌝ }
+{
+    let left_end = left + RECORD * na;
+    let right_end = right + RECORD * nb;
+    bytes::copy(&store[left..left_end], a);
+    bytes::copy(&store[right..right_end], b);
+    let n = join_lists(op, a, na, b, nb, &mut store[free..]);
+    if n <= MOST {
+        Joined::Made(n)
+    } else {
+        Joined::Full
+    }
+}
+
+// Joins two lists of a store into its free rest: na records from byte `left` on and nb from byte `right` on. Short lists take little
+// room.
 pub fn join_in_store(
     op: Join,
     store: &mut [u8],
@@ -316,18 +359,16 @@ pub fn join_in_store(
     ensures { λ r. ⌜ joinLength r ≡ lengthOfJoin (collect (pairsIn op (now (store .entry)) left na right nb)) ⌝ }
     ensures { λ _. ⌜ now (store .exit) ≡ holdingFrom (now (store .entry)) free (fill [] (pairsIn op (now (store .entry)) left na right nb) .list) ⌝ }
 {
+    if na <= FEW {
+        if nb <= FEW {
+            let mut a = [0u8; SHORT];
+            let mut b = [0u8; SHORT];
+            return join_copied(op, &mut a, &mut b, store, left, na, right, nb, free);
+        }
+    }
     let mut a = [0u8; LIST];
     let mut b = [0u8; LIST];
-    let left_end = left + RECORD * na;
-    let right_end = right + RECORD * nb;
-    bytes::copy(&store[left..left_end], &mut a);
-    bytes::copy(&store[right..right_end], &mut b);
-    let n = join_lists(op, &a, na, &b, nb, &mut store[free..]);
-    if n <= MOST {
-        Joined::Made(n)
-    } else {
-        Joined::Full
-    }
+    join_copied(op, &mut a, &mut b, store, left, na, right, nb, free)
 }
 
 fn wide(x: u16) -> u64
