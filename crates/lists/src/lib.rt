@@ -3,7 +3,7 @@
 
 ghost use mathlib.Core.Path.{_≡_};
 ghost use mathlib.Core.List.{[], _++_, map};
-ghost use Prim.Native.Nat.{_+_, _*_, _-_, _^_, _≤_, _<_};
+ghost use Prim.Native.Nat.{_+_, _*_, _-_, _/_, _%_, _^_, _≤_, _<_};
 ghost use lib.Dec.{isEq};
 ghost use lib.ListN.{length, take, drop, replicate};
 ghost use Rattle.theory.specs.Sums.{Every};
@@ -199,16 +199,18 @@ pub fn shift(s: &mut [u8], from: usize, to: usize)
     }
 }
 
-// Puts one interval with its weight into the list of the first n records: an equal interval gets the weight added. A 257th leaves all
-// bytes as they are.
-pub fn insert(s: &mut [u8], n: usize, low: u64, high: u64, weight: u64, hint: usize) -> Insertion
+// Puts one interval, its low and high as one number, with its weight into the list of the first n records: an equal interval gets the
+// weight added. A 257th leaves all bytes as they are.
+pub fn insert(s: &mut [u8], n: usize, key: u64, weight: u64, hint: usize) -> Insertion
     requires { ⌜ (n ≤ mostIntervals) × (listBytes ≤ length (now s)) ⌝ }
-    requires { ⌜ (low < speedLimit) × (high < speedLimit) ⌝ }
+    requires { ⌜ key < speedLimit * speedLimit ⌝ }
     requires { ⌜ InOrder (records n (now s)) ⌝ }
     requires { ⌜ weights (records n (now s)) + weight < 2 ^ 64 ⌝ }
-    ensures { λ r. ⌜ r ≡ insertionOf (focal low high weight) (records n (now (s .entry))) ⌝ }
-    ensures { λ _. ⌜ now (s .exit) ≡ holding (now (s .entry)) (insertOrStay (focal low high weight) (records n (now (s .entry)))) ⌝ }
+    ensures { λ r. ⌜ r ≡ insertionOf (focal (key / speedLimit) (key % speedLimit) weight) (records n (now (s .entry))) ⌝ }
+    ensures { λ _. ⌜ now (s .exit) ≡ holding (now (s .entry)) (insertOrStay (focal (key / speedLimit) (key % speedLimit) weight) (records n (now (s .entry)))) ⌝ }
 {
+    let low = key / SPEEDS;
+    let high = key % SPEEDS;
     let p = find(s, n, low, high, hint);
     if p < n {
         if matches(s, p, low, high) {
@@ -267,7 +269,7 @@ pub fn join_row(
         let l = theory::join_speeds(op, low, k / SPEEDS);
         let h = theory::join_speeds(op, high, k % SPEEDS);
         let w = product_weight(weight, weight_at(b, j));
-        let r = insert(out, m, l, h, w, hint);
+        let r = insert(out, m, l * SPEEDS + h, w, hint);
         m = r.count;
         hint = r.place;
         if MOST < m {
@@ -393,7 +395,8 @@ pub fn put_component(c: Component, out: &mut [u8]) -> usize
     let mut m = 0;
     let mut i = 0;
     while i < count {
-        let r = insert(out, m, wide(lows[i]), wide(highs[i]), wide(weights[i]), m);
+        let key = wide(lows[i]) * SPEEDS + wide(highs[i]);
+        let r = insert(out, m, key, wide(weights[i]), m);
         m = r.count;
         i += 1;
     }
