@@ -94,6 +94,13 @@ bytes-head s h k =
     rw (bigEndian-at s 0 2 h (omega arith), bigEndian-at s 2 2 h (omega arith), bigEndian-at s 4 8 h (omega arith))
     (ap (λ (l : List ℕ). take 2 s ++ l) (ap (λ (l : List ℕ). take 2 (drop 2 s) ++ take 8 l) (sym (drop-drop 2 2 s)) ∙ sym (take-add 2 8 (drop 2 s))) ∙ sym (take-add 2 10 s))
 
+-- an interval from its key
+pub from-key : (f : Focal) → Under 65536 f → _≡_ {A = Focal} (record { low = keyOf f / 65536; high = keyOf f % 65536; weight = f .weight }) f
+from-key f u =
+    let l : keyOf f / 65536 ≡ f .low = omega (arith, u) in
+    let h : keyOf f % 65536 ≡ f .high = omega (arith, u) in
+    λ t. record { low = l t; high = h t; weight = f .weight }
+
 -- the weight alone is stored
 pub weigh-is : (s : List ℕ) (p w : ℕ) → Bytes s → p + 12 ≤ length s
     → take (p + 4) s ++ (bigEndian 8 w ++ drop (p + 4 + 8) s) ≡ take p s ++ (bytesOf (withWeight (headRecord (drop p s)) w) ++ drop (p + 12) s)

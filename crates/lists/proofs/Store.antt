@@ -31,15 +31,20 @@ records-append zero x t h = refl
 records-append (suc n) x t h =
     rw (number-front x t 0 2 (omega arith), number-front x t 2 2 (omega arith), number-front x t 4 8 (omega arith), drop-append-le 12 x t (omega arith), records-append n (drop 12 x) t (rw length-drop (omega arith)))
 
--- a copy of the 12 * n bytes from `start` on holds their records
-pub copied : (s z : List ℕ) (start n : ℕ) → start + 12 * n ≤ length s
-    → records n (take (length (take (start + 12 * n - start) (drop start s))) (take (start + 12 * n - start) (drop start s)) ++ z) ≡ listIn s start n
-copied s z start n h =
-    let e : start + 12 * n - start ≡ 12 * n = omega arith in
+-- what a copy of the m bytes from `start` on leaves in z
+pub copied : (s z : List ℕ) (start m : ℕ) → start + m ≤ length s → let x = take (start + m - start) (drop start s) in
+    take (length x) x ++ drop (length x) z ≡ take m (drop start s) ++ drop m z
+copied s z start m h =
+    let e : start + m - start ≡ m = omega arith in
+    let l : length (take m (drop start s)) ≡ m = length-take-le m (drop start s) (rw length-drop (omega arith)) in
+    rw (e, take-length, l)
+
+-- the 12 * n bytes from `start` on hold their records wherever they stand
+pub copy-holds : (s z : List ℕ) (start n : ℕ) → start + 12 * n ≤ length s → records n (take (12 * n) (drop start s) ++ z) ≡ listIn s start n
+copy-holds s z start n h =
     let d : List ℕ = drop start s in
     let l : 12 * n ≤ length (take (12 * n) d) = rw (length-take-le (12 * n) d (rw length-drop (omega arith))) (omega arith) in
-    rw (e, take-length)
-    (records-append n (take (12 * n) d) z l ∙ sym (records-append n (take (12 * n) d) (drop (12 * n) d) l) ∙ ap (records n) (take-append-drop (12 * n) d))
+    records-append n (take (12 * n) d) z l ∙ sym (records-append n (take (12 * n) d) (drop (12 * n) d) l) ∙ ap (records n) (take-append-drop (12 * n) d)
 
 -- ---- the free rest of a store, lent whole
 

@@ -3,7 +3,7 @@
 
 ghost use mathlib.Core.Path.{_≡_};
 ghost use mathlib.Core.List.{[], _++_, map};
-ghost use Prim.Native.Nat.{_+_, _*_, _-_, _^_, _≤_, _<_};
+ghost use Prim.Native.Nat.{_+_, _*_, _-_, _/_, _%_, _^_, _≤_, _<_};
 ghost use lib.Dec.{isEq};
 ghost use lib.ListN.{length, take, drop, replicate};
 ghost use Rattle.theory.specs.Sums.{Every};
@@ -24,6 +24,11 @@ const MOST: usize = 256;
 
 // the bytes of the longest list
 const LIST: usize = RECORD * MOST;
+
+// the most intervals of a short list, and its bytes
+const FEW: usize = 16;
+
+const SHORT: usize = RECORD * FEW;
 
 // how many speeds a record's low, or its high, can be
 const SPEEDS: u64 = 65536;
@@ -187,23 +192,25 @@ pub fn shift(s: &mut [u8], from: usize, to: usize)
     requires { ⌜ to + recordBytes ≤ length (now s) ⌝ }
     ensures { λ _. ⌜ now (s .exit) ≡ take (from + recordBytes) (now (s .entry)) ++ (take (to - from) (drop from (now (s .entry))) ++ drop (to + recordBytes) (now (s .entry))) ⌝ }
 {
-    let mut j = to;
-    while from < j {
-        j -= 1;
-        s[j + RECORD] = s[j];
+    let mut k = to - from;
+    while 0 < k {
+        k -= 1;
+        s[from + RECORD + k] = s[from + k];
     }
 }
 
-// Puts one interval with its weight into the list of the first n records: an equal interval gets the weight added. A 257th leaves all
-// bytes as they are.
-pub fn insert(s: &mut [u8], n: usize, low: u64, high: u64, weight: u64, hint: usize) -> Insertion
+// Puts one interval, its low and high as one number, with its weight into the list of the first n records: an equal interval gets the
+// weight added. A 257th leaves all bytes as they are.
+pub fn insert(s: &mut [u8], n: usize, key: u64, weight: u64, hint: usize) -> Insertion
     requires { ⌜ (n ≤ mostIntervals) × (listBytes ≤ length (now s)) ⌝ }
-    requires { ⌜ (low < speedLimit) × (high < speedLimit) ⌝ }
+    requires { ⌜ key < speedLimit * speedLimit ⌝ }
     requires { ⌜ InOrder (records n (now s)) ⌝ }
     requires { ⌜ weights (records n (now s)) + weight < 2 ^ 64 ⌝ }
-    ensures { λ r. ⌜ r ≡ insertionOf (focal low high weight) (records n (now (s .entry))) ⌝ }
-    ensures { λ _. ⌜ now (s .exit) ≡ holding (now (s .entry)) (insertOrStay (focal low high weight) (records n (now (s .entry)))) ⌝ }
+    ensures { λ r. ⌜ r ≡ insertionOf (focal (key / speedLimit) (key % speedLimit) weight) (records n (now (s .entry))) ⌝ }
+    ensures { λ _. ⌜ now (s .exit) ≡ holding (now (s .entry)) (insertOrStay (focal (key / speedLimit) (key % speedLimit) weight) (records n (now (s .entry)))) ⌝ }
 {
+    let low = key / SPEEDS;
+    let high = key % SPEEDS;
     let p = find(s, n, low, high, hint);
     if p < n {
         if matches(s, p, low, high) {
@@ -262,7 +269,7 @@ pub fn join_row(
         let l = theory::join_speeds(op, low, k / SPEEDS);
         let h = theory::join_speeds(op, high, k % SPEEDS);
         let w = product_weight(weight, weight_at(b, j));
-        let r = insert(out, m, l, h, w, hint);
+        let r = insert(out, m, l * SPEEDS + h, w, hint);
         m = r.count;
         hint = r.place;
         if MOST < m {
@@ -296,7 +303,45 @@ pub fn join_lists(op: Join, a: &[u8], na: usize, b: &[u8], nb: usize, out: &mut 
     m
 }
 
-// Joins two lists of a store into its free rest: na records from byte `left` on and nb from byte `right` on, copied out first.
+// Joins two lists of a store into its free rest: na records from byte `left` on and nb from byte `right` on, copied first to the front
+// of a and of b.
+pub fn join_copied(
+    op: Join,
+    a: &mut [u8],
+    b: &mut [u8],
+    store: &mut [u8],
+    left: usize,
+    na: usize,
+    right: usize,
+    nb: usize,
+    free: usize,
+) -> Joined
+    requires { ⌜ (recordBytes * na ≤ length (now a)) × (recordBytes * nb ≤ length (now b)) ⌝ }
+    requires { ⌜ (left + recordBytes * na ≤ length (now store)) × (right + recordBytes * nb ≤ length (now store)) × (free + listBytes ≤ length (now store)) ⌝ }
+    requires { ⌜ Every (Under operandLimit) (listIn (now store) left na) × Every (Under operandLimit) (listIn (now store) right nb) ⌝ }
+    requires { ⌜ Every Weighty (listIn (now store) left na) × Every Weighty (listIn (now store) right nb) ⌝ }
+    requires { ⌜ weights (listIn (now store) left na) * weights (listIn (now store) right nb) < 2 ^ 64 ⌝ }
+    ensures { λ r. ⌜ r ≡ joinedAs (collect (pairsIn op (now (store .entry)) left na right nb)) ⌝ }
+    ensures { λ r. ⌜ joinNumber r ≡ numberOfJoin (collect (pairsIn op (now (store .entry)) left na right nb)) ⌝ }
+    ensures { λ r. ⌜ joinLength r ≡ lengthOfJoin (collect (pairsIn op (now (store .entry)) left na right nb)) ⌝ }
+    ensures { λ _. ⌜ now (store .exit) ≡ holdingFrom (now (store .entry)) free (fill [] (pairsIn op (now (store .entry)) left na right nb) .list) ⌝ }
+    ensures { λ _. ⌜ now (a .exit) ≡ take (recordBytes * na) (drop left (now (store .entry))) ++ drop (recordBytes * na) (now (a .entry)) ⌝ }
+    ensures { λ _. ⌜ now (b .exit) ≡ take (recordBytes * nb) (drop right (now (store .entry))) ++ drop (recordBytes * nb) (now (b .entry)) ⌝ }
+{
+    let left_end = left + RECORD * na;
+    let right_end = right + RECORD * nb;
+    bytes::copy(&store[left..left_end], a);
+    bytes::copy(&store[right..right_end], b);
+    let n = join_lists(op, a, na, b, nb, &mut store[free..]);
+    if n <= MOST {
+        Joined::Made(n)
+    } else {
+        Joined::Full
+    }
+}
+
+// Joins two lists of a store into its free rest: na records from byte `left` on and nb from byte `right` on. Short lists take little
+// room.
 pub fn join_in_store(
     op: Join,
     store: &mut [u8],
@@ -316,18 +361,16 @@ pub fn join_in_store(
     ensures { λ r. ⌜ joinLength r ≡ lengthOfJoin (collect (pairsIn op (now (store .entry)) left na right nb)) ⌝ }
     ensures { λ _. ⌜ now (store .exit) ≡ holdingFrom (now (store .entry)) free (fill [] (pairsIn op (now (store .entry)) left na right nb) .list) ⌝ }
 {
+    if na <= FEW {
+        if nb <= FEW {
+            let mut a = [0u8; SHORT];
+            let mut b = [0u8; SHORT];
+            return join_copied(op, &mut a, &mut b, store, left, na, right, nb, free);
+        }
+    }
     let mut a = [0u8; LIST];
     let mut b = [0u8; LIST];
-    let left_end = left + RECORD * na;
-    let right_end = right + RECORD * nb;
-    bytes::copy(&store[left..left_end], &mut a);
-    bytes::copy(&store[right..right_end], &mut b);
-    let n = join_lists(op, &a, na, &b, nb, &mut store[free..]);
-    if n <= MOST {
-        Joined::Made(n)
-    } else {
-        Joined::Full
-    }
+    join_copied(op, &mut a, &mut b, store, left, na, right, nb, free)
 }
 
 fn wide(x: u16) -> u64
@@ -352,7 +395,8 @@ pub fn put_component(c: Component, out: &mut [u8]) -> usize
     let mut m = 0;
     let mut i = 0;
     while i < count {
-        let r = insert(out, m, wide(lows[i]), wide(highs[i]), wide(weights[i]), m);
+        let key = wide(lows[i]) * SPEEDS + wide(highs[i]);
+        let r = insert(out, m, key, wide(weights[i]), m);
         m = r.count;
         i += 1;
     }

@@ -3,14 +3,14 @@ use mathlib.Core.Path.{_≡_, sym, ap, _∙_}
 use mathlib.Core.Bool.{false}
 use mathlib.Core.Logic.{⊎-elim}
 use mathlib.Core.List.{List, _++_}
-use Prim.Native.Nat.{ℕ, _≤_, _<_, _+_, _*_}
+use Prim.Native.Nat.{ℕ, _≤_, _<_, _+_, _*_, _/_, _%_}
 use native.Mathlib.Omega.{arith}
 use lib.Dec.{isEq}
 use lib.ListN.{take, drop}
 use borrow.Author.Needs.{needs}
 use Rattle.theory.specs.Focal.{Focal}
 use Rattle.theory.specs.Lists.{order}
-use Rattle.lists.specs.Records.{bytesOf, recordAt, withWeight}
+use Rattle.lists.specs.Records.{bytesOf, recordAt, withWeight, speedLimit}
 use Rattle.lists.proofs.Bytes.{Bytes}
 use Rattle.lists.proofs.Place.{place-count}
 use Rattle.lists.proofs.Inserting.{Inserted, insert-at, insert-in, insert-over, weight-le}
@@ -19,7 +19,7 @@ use Rattle.lists.proofs.insert.Tie as tie
 
 -- the interval that goes in, and the bytes at entry
 abbrev new : tie.After-find → Focal
-new c = let a = c .before .before .before .args in record { low = a .low; high = a .high; weight = a .weight }
+new c = let a = c .before .before .before .args in record { low = a .key / speedLimit; high = a .key % speedLimit; weight = a .weight }
 
 abbrev entry : tie.After-find → List ℕ
 entry c = c .before .before .before .args .s .now
@@ -87,11 +87,11 @@ write-record-requires c κs =
     let f = c .before .before .before .before .before .before .before in
     omega (arith, within f, f .before .before .before, c .before .before .before .shift .kept)
 
-add-t26 : tie.Need-add-t26
-add-t26 c = search needs
+add-t27 : tie.Need-add-t27
+add-t27 c = search needs
 
-add-t29 : tie.Need-add-t29
-add-t29 c = search needs
+add-t30 : tie.Need-add-t30
+add-t30 c = search needs
 
 same-length-2 : tie.Need-same-length-2
 same-length-2 c = search needs
@@ -134,8 +134,8 @@ insert-spec =
     mul-shift-2
     shift-requires
     write-record-requires
-    add-t26
-    add-t29
+    add-t27
+    add-t30
     same-length-2
     returns-2
     same-length-3

@@ -10,7 +10,7 @@ use Rattle.theory.specs.Joins.{joined, joinedFocal}
 use Rattle.theory.proofs.Every.{index-of-every}
 use Rattle.lists.specs.Records.{keyOf, recordAt, records, at, noFocal, holding, Under, speedLimit, operandLimit}
 use Rattle.lists.specs.Building.{insertionOf, insertOrStay, Filled, fill}
-use Rattle.lists.proofs.Records.{length-records, records-at}
+use Rattle.lists.proofs.Records.{length-records, records-at, from-key}
 use Rattle.lists.proofs.Filling.{Filling, Done, filling-start, filling-step, filling-stop, filling-done, length-now, count-room, order-now, fits-now, head-now}
 use Rattle.lists.proofs.Pairs.{row-under, row-weights, row-next}
 use Rattle.lists.proofs.join_row.Statement.{statement}
@@ -69,11 +69,11 @@ weight-is c = c .weight-at .ensures ∙ ap (λ (f : Focal). f .weight) (sym (sam
 abbrev turn-of : tie.After-product-weight Inv-loop μ-loop → tie.In-loop Inv-loop μ-loop
 turn-of c = c .before .before .before .before .before
 
-abbrev given : tie.After-product-weight Inv-loop μ-loop → Focal
-given c = record { low = c .before .before .before .join-speeds .result; high = c .before .before .join-speeds2 .result; weight = c .product-weight .result }
+abbrev made : tie.After-product-weight Inv-loop μ-loop → Focal
+made c = record { low = c .before .before .before .join-speeds .result; high = c .before .before .join-speeds2 .result; weight = c .product-weight .result }
 
-pair : (c : tie.After-product-weight Inv-loop μ-loop) → given c ≡ joinedFocal (start (turn-of c) .args .op) (own (start (turn-of c))) (other (turn-of c))
-pair c =
+made-is : (c : tie.After-product-weight Inv-loop μ-loop) → made c ≡ joinedFocal (start (turn-of c) .args .op) (own (start (turn-of c))) (other (turn-of c))
+made-is c =
     let k = c .before .before .before .before in
     let a = start (turn-of c) .args in
     λ t. record {
@@ -81,6 +81,15 @@ pair c =
       high = (c .before .before .join-speeds2 .ensures ∙ ap (joined (a .op) (a .high)) (high-is k)) t;
       weight = (c .product-weight .ensures ∙ ap (λ (w : ℕ). a .weight * w) (weight-is (c .before))) t;
     }
+
+made-under : (c : tie.After-product-weight Inv-loop μ-loop) → Under speedLimit (made c)
+made-under c = subst (Under speedLimit) (sym (made-is c)) (head-now (turn (turn-of c)))
+
+abbrev given : tie.After-product-weight Inv-loop μ-loop → Focal
+given c = record { low = keyOf (made c) / speedLimit; high = keyOf (made c) % speedLimit; weight = made c .weight }
+
+pair : (c : tie.After-product-weight Inv-loop μ-loop) → given c ≡ joinedFocal (start (turn-of c) .args .op) (own (start (turn-of c))) (other (turn-of c))
+pair c = from-key (made c) (made-under c) ∙ made-is c
 
 loop-holds : tie.Need-loop-holds Inv-loop μ-loop
 loop-holds c =
@@ -107,13 +116,19 @@ product-weight-requires c κs =
     let i = c .before .before .before .before in
     rw (weight-is c) (omega (arith, fits-now (turn i)))
 
+mul-insert : tie.Need-mul-insert Inv-loop μ-loop
+mul-insert c = omega (arith, made-under (c .before))
+
+add-insert : tie.Need-add-insert Inv-loop μ-loop
+add-insert c = omega (arith, made-under (c .before))
+
 insert-requires : tie.Need-insert-requires Inv-loop μ-loop
 insert-requires c κs =
     let p = c .before in
     let i = turn-of p in (
       (count-room (turn i), omega (arith, length-now (turn i), start i .pre)),
       (
-        subst (Under speedLimit) (sym (pair p)) (head-now (turn i)),
+        omega (arith, made-under p),
         (order-now (turn i), subst (λ (f : Focal). weights (records (i .before .loop .m) (i .before .loop .out)) + f .weight < 2 ^ 64) (sym (pair p)) (fits-now (turn i))),
       ),
     )
@@ -177,6 +192,8 @@ join-row-spec =
     join-speeds-requires-2
     weight-at-requires
     product-weight-requires
+    mul-insert
+    add-insert
     insert-requires
     same-length
     returns

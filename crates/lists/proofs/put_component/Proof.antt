@@ -2,7 +2,7 @@
 -- that is wanted. Assumes nothing.
 use mathlib.Core.Path.{_≡_, sym, ap, _∙_, subst}
 use mathlib.Core.List.{List, [], _∷_}
-use Prim.Native.Nat.{ℕ, _≤_, _<_, _+_, _-_, _^_}
+use Prim.Native.Nat.{ℕ, _≤_, _<_, _+_, _-_, _/_, _%_, _^_}
 use native.Mathlib.Omega.{arith}
 use borrow.Author.Needs.{needs}
 use Rattle.theory.specs.Focal.{Focal, focalAt, masses, weights}
@@ -10,9 +10,9 @@ use Rattle.theory.specs.declared.Component.{Component}
 use Rattle.theory.specs.Lists.{InOrder, insert}
 use Rattle.theory.proofs.Lists.{length-insert}
 use Rattle.lists.specs.declared.Insertion.{Insertion}
-use Rattle.lists.specs.Records.{records, holding, Under, speedLimit}
+use Rattle.lists.specs.Records.{records, holding, Under, speedLimit, keyOf}
 use Rattle.lists.specs.Building.{insertionOf, insertOrStay, fill}
-use Rattle.lists.proofs.Records.{length-records}
+use Rattle.lists.proofs.Records.{length-records, from-key}
 use Rattle.lists.proofs.Filling.{Filling, filling-start, filling-step, filling-done, length-now, count-room, order-now, fits-now, head-now}
 use Rattle.lists.proofs.Masses.{massesFrom, masses-next}
 use Rattle.lists.proofs.Store.{filled}
@@ -64,6 +64,9 @@ array-read-wide c = search needs
 wide-requires : tie.Need-wide-requires Inv-loop μ-loop
 wide-requires c κs = search needs
 
+mul-key : tie.Need-mul-key Inv-loop μ-loop
+mul-key c = omega (arith, c .wide .ensures, head-now (turn (c .before)))
+
 mul-wide-2 : tie.Need-mul-wide-2 Inv-loop μ-loop
 mul-wide-2 c = search needs
 
@@ -72,6 +75,9 @@ array-read-wide-2 c = search needs
 
 wide-requires-2 : tie.Need-wide-requires-2 Inv-loop μ-loop
 wide-requires-2 c κs = search needs
+
+add-key : tie.Need-add-key Inv-loop μ-loop
+add-key c = omega (arith, c .before .wide .ensures, c .wide2 .ensures, head-now (turn (c .before .before)))
 
 mul-wide-3 : tie.Need-mul-wide-3 Inv-loop μ-loop
 mul-wide-3 c = search needs
@@ -83,18 +89,27 @@ wide-requires-3 : tie.Need-wide-requires-3 Inv-loop μ-loop
 wide-requires-3 c κs = search needs
 
 -- what goes in is the interval of this turn
+abbrev made : tie.After-wide3 Inv-loop μ-loop → Focal
+made c = record { low = c .before .before .before .wide .result; high = c .before .before .wide2 .result; weight = c .wide3 .result }
+
+made-is : (c : tie.After-wide3 Inv-loop μ-loop) → made c ≡ this (c .before .before .before .before)
+made-is c = λ i. record { low = c .before .before .before .wide .ensures i; high = c .before .before .wide2 .ensures i; weight = c .wide3 .ensures i }
+
+made-under : (c : tie.After-wide3 Inv-loop μ-loop) → Under speedLimit (made c)
+made-under c = subst (Under speedLimit) (sym (made-is c)) (head-now (turn (c .before .before .before .before)))
+
 abbrev given : tie.After-wide3 Inv-loop μ-loop → Focal
-given c = record { low = c .before .before .wide .result; high = c .before .wide2 .result; weight = c .wide3 .result }
+given c = record { low = keyOf (made c) / speedLimit; high = keyOf (made c) % speedLimit; weight = made c .weight }
 
 interval-is : (c : tie.After-wide3 Inv-loop μ-loop) → given c ≡ this (c .before .before .before .before)
-interval-is c = λ i. record { low = c .before .before .wide .ensures i; high = c .before .wide2 .ensures i; weight = c .wide3 .ensures i }
+interval-is c = from-key (made c) (made-under c) ∙ made-is c
 
 insert-requires : tie.Need-insert-requires Inv-loop μ-loop
 insert-requires c κs =
     let i = c .before .before .before .before in (
       (count-room (turn i), omega (arith, length-now (turn i), start i .pre)),
       (
-        subst (Under speedLimit) (sym (interval-is c)) (head-now (turn i)),
+        omega (arith, made-under c),
         (order-now (turn i), subst (λ (f : Focal). weights (records (i .before .loop .m) (i .before .loop .out)) + f .weight < 2 ^ 64) (sym (interval-is c)) (fits-now (turn i))),
       ),
     )
@@ -145,9 +160,11 @@ put-component-spec =
     mul-wide
     array-read-wide
     wide-requires
+    mul-key
     mul-wide-2
     array-read-wide-2
     wide-requires-2
+    add-key
     mul-wide-3
     array-read-wide-3
     wide-requires-3
