@@ -7,7 +7,7 @@ ghost use Rattle.field.specs.Bits.{fieldAt, setBit, putAt};
 ghost use Rattle.field.specs.Fields.{bits, putAll};
 
 // Two to the k, for widths up to 32.
-pub fn pow2(k: usize) -> u64
+fn pow2(k: usize) -> u64
     requires { ⌜ k ≤ 32 ⌝ }
     ensures { λ r. ⌜ r ≡ 2 ^ k ⌝ }
 {

@@ -7,4 +7,3 @@ pub mod Filling
 pub mod Pairs
 pub mod Store
 pub mod Masses
-pub mod Structures

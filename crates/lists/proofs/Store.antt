@@ -136,47 +136,6 @@ pub full-inv : (l : List Focal) → Full ≡ joinedAs l → mostIntervals < leng
 full-inv l e =
     ⊎-elim (λ k. let q : Full ≡ Made (length l) = e ∙ rw (le-leb (length l) mostIntervals k) in let z : _≡_ {A = ℕ} 0 1 = cc in absurd (omega arith)) (λ k. k) (fits-or-over (length l))
 
--- ---- what stands in a store e that was s, once the list l of n intervals is there from byte `free` on
-
-pub record Stands (s e : List ℕ) (free n : ℕ) (l : List Focal) : Type 0 where
-  pub count : n ≡ length l
-  pub few : n ≤ mostIntervals
-  pub there : listIn e free n ≡ l
-  pub others : (start k : ℕ) → start + 12 * k ≤ free → listIn e start k ≡ listIn s start k
-  pub size : length e ≡ length s
-  pub later : (end : ℕ) → free + 12 * n ≤ end → drop end e ≡ drop end s
-
-pub stands : (s : List ℕ) (free : ℕ) {l : List Focal} → free + listBytes ≤ length s → length l ≤ mostIntervals → Every (Under speedLimit) l → weights l < 2 ^ 64
-    → Stands s (holdingFrom s free l) free (length l) l
-stands s free {l} h few u w =
-    record {
-      count = refl;
-      few = few;
-      there = fresh s free l (omega arith) u w;
-      others = λ start k q. frame s free l start k (omega arith) q;
-      size = length-from s free l (omega arith);
-      later = λ end q. behind s free l end q (omega arith);
-    }
-
-module _ (s : List ℕ) (free : ℕ) (h : free + listBytes ≤ length s) where
-  -- after a join that was made
-  pub join-stands : (n : ℕ) {ps : List Focal} → Every Weighty ps → Every (Under speedLimit) ps → weights ps < 2 ^ 64 → Made n ≡ joinedAs (collect ps)
-      → Stands s (holdingFrom s free (fill [] ps .list)) free n (collect ps)
-  join-stands n {ps} p u w a =
-      let i : (n ≡ length (collect ps)) × (length (collect ps) ≤ mostIntervals) = made-inv (collect ps) n a in
-      let k : Kept [] ps (fill [] ps) = kept [] ps in
-      let e : fill [] ps .list ≡ collect ps = ap (λ (f : Filled). f .list) (fill-made p (i .1)) in
-      subst (λ (m : ℕ). Stands s (holdingFrom s free (fill [] ps .list)) free m (collect ps)) (sym (i .0))
-      (subst (λ (l : List Focal). Stands s (holdingFrom s free l) free (length (collect ps)) (collect ps)) (sym e)
-      (stands s free h (i .1) (subst (Every (Under speedLimit)) e (k .under Every.none u)) (omega (arith, k .sum, ap weights e))))
-
-  -- after any join, made or not: the size, and all that does not lie in the rest
-  pub join-size : (ps : List Focal) → length (holdingFrom s free (fill [] ps .list)) ≡ length s
-  join-size ps = length-from s free (fill [] ps .list) (omega (arith, kept [] ps .room (omega arith)))
-
-  pub join-later : (ps : List Focal) (end : ℕ) → free + listBytes ≤ end → drop end (holdingFrom s free (fill [] ps .list)) ≡ drop end s
-  join-later ps end q = behind s free (fill [] ps .list) end (omega (arith, kept [] ps .room (omega arith))) (omega arith)
-
 -- ---- the list at the front
 
 pub settles : (s t : List ℕ) (start n end : ℕ) → Bytes s → start + 12 * n ≤ length s → 12 * n ≤ end → t ≡ take (12 * n) (drop start s) ++ drop (12 * n) s

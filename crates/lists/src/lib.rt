@@ -81,7 +81,7 @@ pub fn write_number(s: &mut [u8], at: usize, n: usize, v: u64)
 }
 
 // low and high of record i, as one number
-pub fn key_at(s: &[u8], i: usize) -> u64
+fn key_at(s: &[u8], i: usize) -> u64
     requires { ⌜ recordBytes * i + recordBytes ≤ length (now s) ⌝ }
     ensures { λ r. ⌜ r ≡ keyOf (recordAt (now (s .entry)) i) ⌝ }
 {
@@ -89,7 +89,7 @@ pub fn key_at(s: &[u8], i: usize) -> u64
 }
 
 // the weight of record i
-pub fn weight_at(s: &[u8], i: usize) -> u64
+fn weight_at(s: &[u8], i: usize) -> u64
     requires { ⌜ recordBytes * i + recordBytes ≤ length (now s) ⌝ }
     ensures { λ r. ⌜ r ≡ recordAt (now (s .entry)) i .weight ⌝ }
 {
@@ -97,7 +97,7 @@ pub fn weight_at(s: &[u8], i: usize) -> u64
 }
 
 // Writes record i.
-pub fn write_record(s: &mut [u8], i: usize, low: u64, high: u64, weight: u64)
+fn write_record(s: &mut [u8], i: usize, low: u64, high: u64, weight: u64)
     requires { ⌜ (low < speedLimit) × (high < speedLimit) ⌝ }
     requires { ⌜ recordBytes * i + recordBytes ≤ length (now s) ⌝ }
     ensures { λ _. ⌜ now (s .exit) ≡ take (recordBytes * i) (now (s .entry)) ++ (bytesOf (focal low high weight) ++ drop (recordBytes * i + recordBytes) (now (s .entry))) ⌝ }
@@ -107,7 +107,7 @@ pub fn write_record(s: &mut [u8], i: usize, low: u64, high: u64, weight: u64)
 }
 
 // Gives record i another weight.
-pub fn write_weight(s: &mut [u8], i: usize, weight: u64)
+fn write_weight(s: &mut [u8], i: usize, weight: u64)
     requires { ⌜ recordBytes * i + recordBytes ≤ length (now s) ⌝ }
     ensures { λ _. ⌜ now (s .exit) ≡ take (recordBytes * i) (now (s .entry)) ++ (bytesOf (withWeight (recordAt (now (s .entry)) i) weight) ++ drop (recordBytes * i + recordBytes) (now (s .entry))) ⌝ }
 {
@@ -115,7 +115,7 @@ pub fn write_weight(s: &mut [u8], i: usize, weight: u64)
 }
 
 // Whether record i comes before the interval from low to high: the one comparison by which lists are ordered.
-pub fn precedes(s: &[u8], i: usize, low: u64, high: u64) -> bool
+fn precedes(s: &[u8], i: usize, low: u64, high: u64) -> bool
     requires { ⌜ (low < speedLimit) × (high < speedLimit) ⌝ }
     requires { ⌜ recordBytes * i + recordBytes ≤ length (now s) ⌝ }
     ensures { λ r. ⌜ r ≡ isBefore (order (recordAt (now (s .entry)) i) (interval low high)) ⌝ }
@@ -124,7 +124,7 @@ pub fn precedes(s: &[u8], i: usize, low: u64, high: u64) -> bool
 }
 
 // Whether record i is the interval from low to high.
-pub fn matches(s: &[u8], i: usize, low: u64, high: u64) -> bool
+fn matches(s: &[u8], i: usize, low: u64, high: u64) -> bool
     requires { ⌜ (low < speedLimit) × (high < speedLimit) ⌝ }
     requires { ⌜ recordBytes * i + recordBytes ≤ length (now s) ⌝ }
     ensures { λ r. ⌜ r ≡ isEq (order (recordAt (now (s .entry)) i) (interval low high)) ⌝ }
@@ -133,7 +133,7 @@ pub fn matches(s: &[u8], i: usize, low: u64, high: u64) -> bool
 }
 
 // The place of the interval from low to high among the first n records, which lies from `from` to `to`.
-pub fn bisect(s: &[u8], n: usize, low: u64, high: u64, from: usize, to: usize) -> usize
+fn bisect(s: &[u8], n: usize, low: u64, high: u64, from: usize, to: usize) -> usize
     requires { ⌜ (low < speedLimit) × (high < speedLimit) ⌝ }
     requires { ⌜ recordBytes * n ≤ length (now s) ⌝ }
     requires { ⌜ InOrder (records n (now s)) ⌝ }
@@ -154,7 +154,7 @@ pub fn bisect(s: &[u8], n: usize, low: u64, high: u64, from: usize, to: usize) -
 }
 
 // The place of the interval from low to high among the first n records. The hint is any number: the search begins there.
-pub fn find(s: &[u8], n: usize, low: u64, high: u64, hint: usize) -> usize
+fn find(s: &[u8], n: usize, low: u64, high: u64, hint: usize) -> usize
     requires { ⌜ (low < speedLimit) × (high < speedLimit) ⌝ }
     requires { ⌜ recordBytes * n ≤ length (now s) ⌝ }
     requires { ⌜ InOrder (records n (now s)) ⌝ }
@@ -187,7 +187,7 @@ pub fn find(s: &[u8], n: usize, low: u64, high: u64, hint: usize) -> usize
 }
 
 // Moves the bytes from `from` up to `to` up by one record, the last first.
-pub fn shift(s: &mut [u8], from: usize, to: usize)
+fn shift(s: &mut [u8], from: usize, to: usize)
     requires { ⌜ from ≤ to ⌝ }
     requires { ⌜ to + recordBytes ≤ length (now s) ⌝ }
     ensures { λ _. ⌜ now (s .exit) ≡ take (from + recordBytes) (now (s .entry)) ++ (take (to - from) (drop from (now (s .entry))) ++ drop (to + recordBytes) (now (s .entry))) ⌝ }
@@ -201,7 +201,7 @@ pub fn shift(s: &mut [u8], from: usize, to: usize)
 
 // Puts one interval, its low and high as one number, with its weight into the list of the first n records: an equal interval gets the
 // weight added. A 257th leaves all bytes as they are.
-pub fn insert(s: &mut [u8], n: usize, key: u64, weight: u64, hint: usize) -> Insertion
+fn insert(s: &mut [u8], n: usize, key: u64, weight: u64, hint: usize) -> Insertion
     requires { ⌜ (n ≤ mostIntervals) × (listBytes ≤ length (now s)) ⌝ }
     requires { ⌜ key < speedLimit * speedLimit ⌝ }
     requires { ⌜ InOrder (records n (now s)) ⌝ }
@@ -235,7 +235,7 @@ pub fn insert(s: &mut [u8], n: usize, key: u64, weight: u64, hint: usize) -> Ins
 }
 
 // The product of two weights.
-pub fn product_weight(a: u64, b: u64) -> u64
+fn product_weight(a: u64, b: u64) -> u64
     requires { ⌜ a * b < 2 ^ 64 ⌝ }
     ensures { λ r. ⌜ r ≡ a * b ⌝ }
 {
@@ -243,7 +243,7 @@ pub fn product_weight(a: u64, b: u64) -> u64
 }
 
 // Joins one interval with the first nb records of b, and puts the pairs into the list of the first n records of out.
-pub fn join_row(
+fn join_row(
     op: Join,
     low: u64,
     high: u64,
@@ -282,7 +282,7 @@ pub fn join_row(
 
 // Joins the first na records of a with the first nb of b: their list at the front of out, and its length, or 257 where a 257th interval
 // would be needed.
-pub fn join_lists(op: Join, a: &[u8], na: usize, b: &[u8], nb: usize, out: &mut [u8]) -> usize
+fn join_lists(op: Join, a: &[u8], na: usize, b: &[u8], nb: usize, out: &mut [u8]) -> usize
     requires { ⌜ (recordBytes * na ≤ length (now a)) × (recordBytes * nb ≤ length (now b)) × (listBytes ≤ length (now out)) ⌝ }
     requires { ⌜ Every (Under operandLimit) (records na (now a)) ⌝ }
     requires { ⌜ Every (Under operandLimit) (records nb (now b)) ⌝ }
@@ -305,7 +305,7 @@ pub fn join_lists(op: Join, a: &[u8], na: usize, b: &[u8], nb: usize, out: &mut 
 
 // Joins two lists of a store into its free rest: na records from byte `left` on and nb from byte `right` on, copied first to the front
 // of a and of b.
-pub fn join_copied(
+fn join_copied(
     op: Join,
     a: &mut [u8],
     b: &mut [u8],
@@ -380,7 +380,7 @@ fn wide(x: u16) -> u64
 }
 
 // Builds a component's list at the front of out.
-pub fn put_component(c: Component, out: &mut [u8]) -> usize
+fn put_component(c: Component, out: &mut [u8]) -> usize
     requires { ⌜ (c .count ≤ 8) × (listBytes ≤ length (now out)) ⌝ }
     requires { ⌜ Every (Under speedLimit) (masses c) ⌝ }
     requires { ⌜ Every Weighty (masses c) ⌝ }
@@ -442,7 +442,7 @@ pub fn shares_at(s: &[u8], n: usize, demand: u64) -> Shares
 }
 
 // Moves n bytes from `start` on to the front.
-pub fn move_to_front(s: &mut [u8], start: usize, n: usize)
+fn move_to_front(s: &mut [u8], start: usize, n: usize)
     requires { ⌜ start + n ≤ length (now s) ⌝ }
     ensures { λ _. ⌜ now (s .exit) ≡ take n (drop start (now (s .entry))) ++ drop n (now (s .entry)) ⌝ }
 {
