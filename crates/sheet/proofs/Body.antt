@@ -6,18 +6,21 @@ use mathlib.Core.List.{List}
 use Prim.Native.Nat.{ℕ, zero, suc, _+_, _*_, _≤_, _<_}
 use native.Mathlib.Omega.{arith}
 use lib.ListN.{length}
+use Rattle.theory.specs.Sums.{countFrom}
 use Rattle.theory.specs.Lists.{noComponent}
+use Rattle.theory.specs.declared.Component.{Component}
 use Rattle.field.specs.Bits.{fieldAt}
 use Rattle.block.proofs.Rows.{row-used}
-use Rattle.block.specs.Block.{whole, zeroed, componentIn, zeroComponent, componentOf}
-use Rattle.block.proofs.Laws.{whole-is}
+use Rattle.block.specs.Block.{whole, zeroed, componentIn, zeroComponent}
 use Rattle.sheet.specs.declared.Plan.{Plan}
 use Rattle.sheet.specs.declared.Blocks.{Blocks}
-use Rattle.sheet.specs.Plan.{mostComponents, entryCount, componentAt, zeroPlan}
-use Rattle.sheet.specs.Rules.{Sized}
-use Rattle.sheet.specs.Reading.{componentCount, startOf, blockAt, entriesAt, planIn, someCut, badLayout, someUnzeroed, badZeros, reading, wholeBlocks, blocksIn}
+use Rattle.sheet.specs.Plan.{mostComponents, entryCount, componentAt, componentsOf, zeroPlan}
+use Rattle.sheet.specs.Tests.{some}
+use Rattle.sheet.specs.Rules.{badTotal, rule6, badIntervals, rule7, badSum, rule8, rule9, rule10, rule11, rules, rulesOf}
+use Rattle.sheet.specs.Reading.{componentCount, startOf, blockAt, entriesAt, planIn, someCut, badLayout, someUnzeroed, badZeros, reading, someBlock, wholeBlocks, blocksIn}
 use Rattle.sheet.proofs.InTurn.{blocks-none, blocks-whole}
-use Rattle.sheet.proofs.Some.{each, some-below}
+use Rattle.sheet.proofs.Loops.{some-map}
+use Rattle.sheet.proofs.Some.{some-below, some-alike}
 
 -- a number other than 0 refuses, 0 accepts
 pub refuses : (k : ℕ) (p : Plan) → (k ≡ 0 → ⊥) → reading k p ≡ record { number = k; plan = zeroPlan }
@@ -29,6 +32,12 @@ not-same true true e = refl
 not-same true false e = absurd (false≢true e)
 not-same false true e = absurd (true≢false e)
 not-same false false e = refl
+
+-- 6 to 11 of a plan
+pub rules-by : {x₆ x₇ x₈ : Bool} {es : List ℕ} {n : ℕ} (p : Plan) → x₆ ≡ some badTotal (componentsOf p) → x₇ ≡ some badIntervals (componentsOf p) → x₈ ≡ some badSum (componentsOf p) → es ≡ p .entries → n ≡ p .count
+    → rulesOf x₆ x₇ x₈ es n ≡ rules p
+unfolding rule6 rule7 rule8 rule9 rule10 rule11
+rules-by p e₆ e₇ e₈ e d = rw (e₆, e₇, e₈, e, d)
 
 module _ (s : List ℕ) (n : ℕ) (en : n ≡ componentCount s) where
   -- number 4
@@ -86,14 +95,27 @@ module _ (s : List ℕ) (n : ℕ) (en : n ≡ componentCount s) where
   unfolding planIn
   component-is i h l = rw (← en) (row-used zeroComponent mostComponents noComponent (λ j. componentIn (blockAt s j)) n i h l)
 
+  count-is : planIn s .count ≡ n
+  unfolding planIn
+  count-is = sym en
+
+  bad-is : (bad : Component → Bool) → n ≤ mostComponents → some bad (componentsOf (planIn s)) ≡ someBlock bad s n
+  bad-is bad l =
+      some-map bad (componentAt (planIn s)) (countFrom 0 (planIn s .count))
+      ∙ (ap (λ k. some (λ i. bad (componentAt (planIn s) i)) (countFrom 0 k)) count-is
+      ∙ some-alike (λ i. bad (componentAt (planIn s) i)) (λ i. bad (componentIn (blockAt s i))) 0 n (λ i a b. ap bad (component-is i (omega arith) l)))
+
+  -- 6 to 11 of it, where 6, 7 and 8 were tested block by block
+  pub rules-are : (r : Blocks) (w : (someCut s n ≡ false) × (r ≡ wholeBlocks s n)) (es : List ℕ) → es ≡ entriesAt s (8 * r .end) (entryCount n) → n ≤ mostComponents
+      → rulesOf (r .six) (r .seven) (r .eight) es n ≡ rules (planIn s)
+  rules-are r w es d l =
+      rules-by
+      (planIn s)
+      (ap (λ (x : Blocks). x .six) (w .1) ∙ sym (bad-is badTotal l))
+      (ap (λ (x : Blocks). x .seven) (w .1) ∙ sym (bad-is badIntervals l))
+      (ap (λ (x : Blocks). x .eight) (w .1) ∙ sym (bad-is badSum l))
+      (ap (λ (x : Plan). x .entries) (whole-plan r w es d))
+      (ap (λ (x : Plan). x .count) (whole-plan r w es d))
+
   pub block-is-whole : (i : ℕ) → i < n → someCut s n ≡ false → whole (blockAt s i) ≡ true
   block-is-whole i h e = not-false _ (some-below (λ j. not (whole (blockAt s j))) 0 n i e (omega arith) (omega arith))
-
-  pub plan-sized : 1 ≤ n → n ≤ mostComponents → someCut s n ≡ false → Sized (planIn s)
-  unfolding planIn componentOf
-  plan-sized a b e =
-      record {
-        least = omega arith;
-        most = omega arith;
-        each = λ i h. rw (component-is i (omega arith) b) (whole-is (blockAt s i) (block-is-whole i (omega arith) e) .1);
-      }
