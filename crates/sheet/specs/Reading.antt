@@ -117,6 +117,17 @@ noBlocks =
 unfoldable pub blocksIn : List ℕ → ℕ → Blocks
 blocksIn s n = cond (someCut s n) noBlocks (wholeBlocks s n)
 
+-- 1 to 3, of the head
+abbrev pub headTests : List ℕ → List Test
+headTests s = test 1 (badLength s) ∷ test 2 (badEdition s) ∷ test 3 (rule3 (componentCount s)) ∷ []
+
+-- 4 and 5, of n blocks that were read up to byte e
+abbrev pub layoutBy : List ℕ → ℕ → Bool → Bool → ℕ → List Test
+layoutBy s n whole zeroed e =
+    test 4 (not whole || not (eqb (e + n) (length s)))
+    ∷ test 5 (not zeroed || not (eqb (fieldAt s (8 * e + 4 * entryCount n) 4) 0))
+    ∷ []
+
 -- behind the head: 4 and 5, then 6 to 11 of the plan
 abbrev pub bodyTests : List ℕ → List Test
 bodyTests s = test 4 (badLayout s) ∷ test 5 (badZeros s) ∷ rules (planIn s)

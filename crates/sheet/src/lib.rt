@@ -13,7 +13,7 @@ ghost use Rattle.theory.specs.Structure.{named, joinsFindTwo};
 ghost use Rattle.sheet.specs.Tests.{firstBroken, outside, some};
 ghost use Rattle.sheet.specs.Plan.{componentsOf, codesIn, entryOf, isJoin, structureIn, zeroPlan};
 ghost use Rattle.sheet.specs.Rules.{Sized, badAlone, after, badInterval, badIntervals, badSum, badComponent, badCode, badNaming, rulesOf};
-ghost use Rattle.sheet.specs.Reading.{componentCount, entriesAt, noBlocks, blocksIn, planIn, bodyTests, reading, readOf};
+ghost use Rattle.sheet.specs.Reading.{entriesAt, noBlocks, blocksIn, headTests, layoutBy, readOf};
 ghost use Rattle.sheet.specs.Writing.{endOf, lengthOf, blockFields, sheetFields, writtenOf, bytesAfter};
 use theory::Component;
 
@@ -382,28 +382,66 @@ fn refuse(number: u8) -> Reading
     }
 }
 
-// What stands behind the head of a sheet of n components.
-fn read_body(sheet: &[u8], n: usize) -> Reading
-    requires { ⌜ (1 ≤ n) × (n ≤ 6) × (n ≡ componentCount (now sheet)) × (2 ≤ length (now sheet)) × (length (now sheet) ≤ 255) ⌝ }
-    ensures { λ r. ⌜ r ≡ reading (firstBroken (bodyTests (now (sheet .entry)))) (planIn (now (sheet .entry))) ⌝ }
+// Number 1, 2 or 3 of a sheet, or 0.
+fn head_number(sheet: &[u8]) -> u8
+    ensures { λ r. ⌜ r ≡ firstBroken (headTests (now (sheet .entry))) ⌝ }
 {
-    let b = read_blocks(sheet, n);
-    if !b.whole {
-        return refuse(4);
+    let len = sheet.len();
+    if len < 2 {
+        return 1;
     }
-    let at = b.end;
+    let head = reader::three(sheet, 0, 4, 4, 8);
+    if head.third as usize != len {
+        return 1;
+    }
+    if head.first != 1 {
+        return 2;
+    }
+    if is_outside(1, 6, head.second as usize) {
+        return 3;
+    }
+    0
+}
+
+// Number 4 or 5 of a sheet whose n blocks end before byte at, or 0.
+fn layout_number(sheet: &[u8], n: usize, whole: bool, zeroed: bool, at: usize) -> u8
+    requires { ⌜ (1 ≤ n) × (n ≤ 6) × (at ≤ 255) × (length (now sheet) ≤ 255) ⌝ }
+    ensures { λ r. ⌜ r ≡ firstBroken (layoutBy (now (sheet .entry)) n whole zeroed at) ⌝ }
+{
+    if !whole {
+        return 4;
+    }
     if at + n != sheet.len() {
-        return refuse(4);
+        return 4;
     }
-    if !b.zeroed {
-        return refuse(5);
+    if !zeroed {
+        return 5;
     }
     let m = 2 * n - 1;
     let last = reader::three(sheet, 8 * at + 4 * m, 4, 0, 0);
     if last.first != 0 {
-        return refuse(5);
+        return 5;
     }
-    let entries = read_entries(sheet, 8 * at, m);
+    0
+}
+
+// The plan of a sheet, or the least of the numbers 1 to 11 that applies.
+pub fn read_sheet(sheet: &[u8]) -> Reading
+    ensures { λ r. ⌜ r ≡ readOf (now (sheet .entry)) ⌝ }
+{
+    let head = head_number(sheet);
+    if head != 0 {
+        return refuse(head);
+    }
+    let t = reader::three(sheet, 4, 4, 0, 0);
+    let n = t.first as usize;
+    let b = read_blocks(sheet, n);
+    let at = b.end;
+    let layout = layout_number(sheet, n, b.whole, b.zeroed, at);
+    if layout != 0 {
+        return refuse(layout);
+    }
+    let entries = read_entries(sheet, 8 * at, 2 * n - 1);
     let number = first_rule(b.six, b.seven, b.eight, entries, n);
     if number != 0 {
         return refuse(number);
@@ -415,28 +453,6 @@ fn read_body(sheet: &[u8], n: usize) -> Reading
         entries: entries,
     };
     Reading { plan: p, number: 0 }
-}
-
-// The plan of a sheet, or the least of the numbers 1 to 11 that applies.
-pub fn read_sheet(sheet: &[u8]) -> Reading
-    ensures { λ r. ⌜ r ≡ readOf (now (sheet .entry)) ⌝ }
-{
-    let len = sheet.len();
-    if len < 2 {
-        return refuse(1);
-    }
-    let head = reader::three(sheet, 0, 4, 4, 8);
-    if head.third as usize != len {
-        return refuse(1);
-    }
-    if head.first != 1 {
-        return refuse(2);
-    }
-    let n = head.second as usize;
-    if is_outside(1, 6, n) {
-        return refuse(3);
-    }
-    read_body(sheet, n)
 }
 
 // The bytes of the block of k intervals.
