@@ -18,15 +18,11 @@ use Rattle.sheet.specs.Tests.{firstBroken, some}
 use Rattle.sheet.specs.Plan.{mostComponents, mostEntries, entryCount, componentAt, componentsOf, codesOf, cleanedPlan}
 use Rattle.sheet.specs.Rules.{badTotal, rule6, badAlone, after, badInterval, badIntervals, rule7, badSum, rule8, rule9, rule10, rule11, rules, Sized}
 use Rattle.sheet.proofs.Loops.{some-map}
-use Rattle.sheet.proofs.Some.{each}
+use Rattle.sheet.proofs.Some.{each, some-alike}
 
 pub map-below : {A : Type 0} (f g : ℕ → A) (k n : ℕ) → ((i : ℕ) → k ≤ i → i < k + n → f i ≡ g i) → map f (countFrom k n) ≡ map g (countFrom k n)
 map-below f g k zero h = refl
 map-below f g k (suc n) h = rw (h k (omega arith) (omega arith), map-below f g (suc k) n (λ i a b. h i (omega arith) (omega arith)))
-
-pub some-alike : (f g : ℕ → Bool) (k n : ℕ) → ((i : ℕ) → k ≤ i → i < k + n → f i ≡ g i) → some f (countFrom k n) ≡ some g (countFrom k n)
-some-alike f g k zero h = refl
-some-alike f g k (suc n) h = rw (h k (omega arith) (omega arith), some-alike f g (suc k) n (λ i a b. h i (omega arith) (omega arith)))
 
 module _ (c : Component) (l : c .count ≤ 8) where
   focal-alike : (j : ℕ) → j < c .count → focalAt (cleaned c) j ≡ focalAt c j

@@ -11,11 +11,13 @@ use lib.ListN.{length, set, take, drop, length-drop}
 use lib.Seq.{take-all}
 use Rattle.theory.specs.Structure.{component}
 use Rattle.block.specs.Rows.{row}
-use Rattle.block.specs.Block.{whole, zeroed, blockIn}
+use Rattle.theory.specs.declared.Component.{Component}
+use Rattle.block.specs.Block.{whole, zeroed, componentOf, componentIn, blockIn}
 use Rattle.block.proofs.Laws.{whole-is, block-whole, block-says, size-fits}
 use Rattle.block.specs.declared.Block.{Block}
 use Rattle.sheet.specs.declared.Blocks.{Blocks}
-use Rattle.sheet.specs.Reading.{startOf, blockAt, someCut, someUnzeroed, wholeBlocks, blocksIn, noBlocks}
+use Rattle.sheet.specs.Reading.{startOf, blockAt, someCut, someUnzeroed, someBlock, wholeBlocks, blocksIn, noBlocks}
+use Rattle.sheet.specs.Rules.{badTotal, badIntervals, badSum}
 use Rattle.sheet.proofs.Some.{neither, some-at, some-more}
 
 -- the rest of a list, as a slice's part has it
@@ -63,9 +65,19 @@ module _ (s : List ℕ) where
       rw (add-one, some-more (λ j. not (zeroed (blockAt s j))) 0 i, zero-add)
       (not-both (someUnzeroed s i) (zeroed (blockAt s i)))
 
+  -- a block that was read has up to eight intervals
+  pub count-fits : (i : ℕ) (b : Block) → b ≡ blockIn (blockAt s i) → whole (blockAt s i) ≡ true → b .component .count ≤ 8
+  unfolding componentOf
+  count-fits i b q w = rw (q ∙ block-whole (blockAt s i) w) (whole-is (blockAt s i) w .1)
+
+  -- a rule of components, of one block more
+  pub bad-next : (bad : Component → Bool) (i : ℕ) (b : Block) → b ≡ blockIn (blockAt s i) → whole (blockAt s i) ≡ true → (someBlock bad s i || bad (b .component)) ≡ someBlock bad s (i + 1)
+  bad-next bad i b q w = rw (q ∙ block-whole (blockAt s i) w, add-one, some-more (λ j. bad (componentIn (blockAt s j))) 0 i, zero-add)
+
   -- one block more
-  pub next-block : (i : ℕ) (r : Blocks) (b : Block) (z : Bool) → r ≡ wholeBlocks s i → b ≡ blockIn (blockAt s i) → whole (blockAt s i) ≡ true → z ≡ (r .zeroed && b .zeroed)
-      → _≡_ {A = Blocks} (record { whole = r .whole; zeroed = z; end = r .end + b .size; components = set (r .components) i (b .component) }) (wholeBlocks s (i + 1))
+  pub next-block : (i : ℕ) (r : Blocks) (b : Block) (z x₆ x₇ x₈ : Bool) → r ≡ wholeBlocks s i → b ≡ blockIn (blockAt s i) → whole (blockAt s i) ≡ true
+      → z ≡ (r .zeroed && b .zeroed) → x₆ ≡ (r .six || badTotal (b .component)) → x₇ ≡ (r .seven || badIntervals (b .component)) → x₈ ≡ (r .eight || badSum (b .component))
+      → _≡_ {A = Blocks} (record { components = set (r .components) i (b .component); whole = true; zeroed = z; six = x₆; seven = x₇; eight = x₈; end = r .end + b .size }) (wholeBlocks s (i + 1))
   unfolding startOf row
-  next-block i r b z p q w e =
-      rw (e, p, q ∙ block-whole (blockAt s i) w, zeroed-next i, add-one)
+  next-block i r b z x₆ x₇ x₈ p q w e e₆ e₇ e₈ =
+      rw (e, e₆, e₇, e₈, p, bad-next badTotal i b q w, bad-next badIntervals i b q w, bad-next badSum i b q w, q ∙ block-whole (blockAt s i) w, zeroed-next i, add-one)

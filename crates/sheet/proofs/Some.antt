@@ -40,6 +40,10 @@ pub none-below : (f : ℕ → Bool) (k n : ℕ) → ((i : ℕ) → k ≤ i → i
 none-below f k zero h = refl
 none-below f k (suc n) h = rw (h k (omega arith) (omega arith)) (none-below f (suc k) n (λ i a b. h i (omega arith) (omega arith)))
 
+pub some-alike : (f g : ℕ → Bool) (k n : ℕ) → ((i : ℕ) → k ≤ i → i < k + n → f i ≡ g i) → some f (countFrom k n) ≡ some g (countFrom k n)
+some-alike f g k zero h = refl
+some-alike f g k (suc n) h = rw (h k (omega arith) (omega arith), some-alike f g (suc k) n (λ i a b. h i (omega arith) (omega arith)))
+
 pub some-at : (f : ℕ → Bool) (k n i : ℕ) → k ≤ i → i < k + n → f i ≡ true → some f (countFrom k n) ≡ true
 some-at f k zero i a b e = absurd (omega arith)
 some-at f k (suc n) i a b e = elim (ℕ-discrete i k) [

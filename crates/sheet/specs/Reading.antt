@@ -14,7 +14,7 @@ use Rattle.sheet.specs.declared.Plan.{Plan}
 use Rattle.sheet.specs.declared.Reading.{Reading}
 use Rattle.sheet.specs.Tests.{Test, test, firstBroken, some}
 use Rattle.sheet.specs.Plan.{mostComponents, mostEntries, entryCount, zeroPlan}
-use Rattle.sheet.specs.Rules.{rule3, rules}
+use Rattle.sheet.specs.Rules.{rule3, badTotal, badIntervals, badSum, rules}
 
 -- the edition in a sheet's head
 abbrev pub editionIn : List ℕ → ℕ
@@ -83,18 +83,50 @@ unfoldable pub badZeros : List ℕ → Bool
 badZeros s =
     someUnzeroed s (componentCount s) || not (eqb (fieldAt s (structurePlace s + 4 * entryCount (componentCount s)) 4) 0)
 
+-- a component of one of the first n blocks is bad
+abbrev pub someBlock : (Component → Bool) → List ℕ → ℕ → Bool
+someBlock bad s n = some (λ i. bad (componentIn (blockAt s i))) (countFrom 0 n)
+
 -- the first n blocks, read in turn, where all are whole
 abbrev pub wholeBlocks : List ℕ → ℕ → Blocks
 wholeBlocks s n =
-    record { whole = true; zeroed = not (someUnzeroed s n); end = startOf s n; components = componentsIn s n }
+    record {
+      components = componentsIn s n;
+      whole = true;
+      zeroed = not (someUnzeroed s n);
+      six = someBlock badTotal s n;
+      seven = someBlock badIntervals s n;
+      eight = someBlock badSum s n;
+      end = startOf s n;
+    }
 
 -- and where one is not
 abbrev pub noBlocks : Blocks
-noBlocks = record { whole = false; zeroed = false; end = 0; components = replicate mostComponents zeroComponent }
+noBlocks =
+    record {
+      components = replicate mostComponents zeroComponent;
+      whole = false;
+      zeroed = false;
+      six = false;
+      seven = false;
+      eight = false;
+      end = 0;
+    }
 
 -- the first n blocks of a sheet
 unfoldable pub blocksIn : List ℕ → ℕ → Blocks
 blocksIn s n = cond (someCut s n) noBlocks (wholeBlocks s n)
+
+-- 1 to 3, of the head
+abbrev pub headTests : List ℕ → List Test
+headTests s = test 1 (badLength s) ∷ test 2 (badEdition s) ∷ test 3 (rule3 (componentCount s)) ∷ []
+
+-- 4 and 5, of n blocks that were read up to byte e
+abbrev pub layoutBy : List ℕ → ℕ → Bool → Bool → ℕ → List Test
+layoutBy s n whole zeroed e =
+    test 4 (not whole || not (eqb (e + n) (length s)))
+    ∷ test 5 (not zeroed || not (eqb (fieldAt s (8 * e + 4 * entryCount n) 4) 0))
+    ∷ []
 
 -- behind the head: 4 and 5, then 6 to 11 of the plan
 abbrev pub bodyTests : List ℕ → List Test

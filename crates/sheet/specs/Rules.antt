@@ -9,7 +9,7 @@ use Rattle.theory.specs.Structure.{Entry, named, joinsFindTwo}
 use Rattle.theory.specs.declared.Component.{Component}
 use Rattle.sheet.specs.declared.Plan.{Plan}
 use Rattle.sheet.specs.Tests.{Test, test, outside, some}
-use Rattle.sheet.specs.Plan.{mostComponents, componentAt, componentsOf, codesOf, entriesOf}
+use Rattle.sheet.specs.Plan.{mostComponents, componentAt, componentsOf, codesIn, codesOf, structureIn, entriesOf}
 
 -- 3: the component count is not 1 to 6
 abbrev pub rule3 : ℕ → Bool
@@ -89,6 +89,17 @@ rule11 p = not (joinsFindTwo (entriesOf p) 0)
 abbrev pub rules : Plan → List Test
 rules p =
     test 6 (rule6 p) ∷ test 7 (rule7 p) ∷ test 8 (rule8 p) ∷ test 9 (rule9 p) ∷ test 10 (rule10 p) ∷ test 11 (rule11 p) ∷ []
+
+-- the same, of a structure of n components: whether 6, 7 and 8 are broken is known
+abbrev pub rulesOf : Bool → Bool → Bool → List ℕ → ℕ → List Test
+rulesOf six seven eight entries n =
+    test 6 six
+    ∷ test 7 seven
+    ∷ test 8 eight
+    ∷ test 9 (some (badCode n) (codesIn entries n))
+    ∷ test 10 (some (badNaming (structureIn entries n)) (countFrom 0 n))
+    ∷ test 11 (not (joinsFindTwo (structureIn entries n) 0))
+    ∷ []
 
 -- the places that a plan says to use are there: 3 and 4 are kept
 pub record Sized (p : Plan) : Type 0 where

@@ -1,7 +1,7 @@
 // A sheet and a plan: the same facts as bytes and as values.
 ghost use mathlib.Core.Path.{_≡_};
 ghost use mathlib.Core.Logic.{_⊎_};
-ghost use mathlib.Core.Bool.{not, _&&_};
+ghost use mathlib.Core.Bool.{not, _&&_, _||_};
 ghost use Prim.Native.Nat.{_+_, _*_, _≤_, _<_};
 ghost use mathlib.Core.List.{map};
 ghost use lib.Dec.{ltb};
@@ -12,8 +12,8 @@ ghost use Rattle.theory.specs.Sums.{countFrom, countOf};
 ghost use Rattle.theory.specs.Structure.{named, joinsFindTwo};
 ghost use Rattle.sheet.specs.Tests.{firstBroken, outside, some};
 ghost use Rattle.sheet.specs.Plan.{componentsOf, codesIn, entryOf, isJoin, structureIn, zeroPlan};
-ghost use Rattle.sheet.specs.Rules.{Sized, badAlone, after, badInterval, badIntervals, badSum, badComponent, badCode, badNaming, rules};
-ghost use Rattle.sheet.specs.Reading.{componentCount, entriesAt, noBlocks, blocksIn, planIn, bodyTests, reading, readOf};
+ghost use Rattle.sheet.specs.Rules.{Sized, badAlone, after, badInterval, badIntervals, badSum, badComponent, badCode, badNaming, rulesOf};
+ghost use Rattle.sheet.specs.Reading.{entriesAt, noBlocks, blocksIn, headTests, layoutBy, readOf};
 ghost use Rattle.sheet.specs.Writing.{endOf, lengthOf, blockFields, sheetFields, writtenOf, bytesAfter};
 use theory::Component;
 
@@ -27,8 +27,8 @@ pub struct Plan {
 
 // What reading a sheet finds: the number of the refusal and a plan of zeros, or 0 and the plan.
 pub struct Reading {
-    pub number: u8,
     pub plan: Plan,
+    pub number: u8,
 }
 
 // What writing a plan comes to: the number of the refusal and length 0, or 0 and the sheet's length.
@@ -37,13 +37,16 @@ pub struct Written {
     pub length: usize,
 }
 
-// The blocks of a sheet, read in turn: whether all are whole (number 4), whether their bits named zero are zero (number 5),
-// the byte behind the last, and the components.
+// The blocks of a sheet, read in turn: the components, whether all are whole (number 4), whether their bits named zero are zero
+// (number 5), whether some component breaks rule 6, 7 or 8, and the byte behind the last.
 pub struct Blocks {
+    pub components: [Component; 6],
     pub whole: bool,
     pub zeroed: bool,
+    pub six: bool,
+    pub seven: bool,
+    pub eight: bool,
     pub end: usize,
-    pub components: [Component; 6],
 }
 
 fn is_outside(lowest: usize, highest: usize, x: usize) -> bool
@@ -262,20 +265,18 @@ fn some_join(entries: [u8; 11], n: usize) -> bool
     false
 }
 
-// The number of the first of the rules 6 to 11 that a plan breaks, or 0.
-fn first_rule(p: Plan) -> u8
-    requires { ⌜ Sized p ⌝ }
-    ensures { λ r. ⌜ r ≡ firstBroken (rules p) ⌝ }
+// The number of the first of the rules 6 to 11 that is broken, or 0: of 6, 7 and 8 it is known.
+fn first_rule(six: bool, seven: bool, eight: bool, entries: [u8; 11], n: usize) -> u8
+    requires { ⌜ (1 ≤ n) × (n ≤ 6) ⌝ }
+    ensures { λ r. ⌜ r ≡ firstBroken (rulesOf six seven eight entries n) ⌝ }
 {
-    let n = p.count;
-    let entries = p.entries;
-    if some_component(6, p) {
+    if six {
         return 6;
     }
-    if some_component(7, p) {
+    if seven {
         return 7;
     }
-    if some_component(8, p) {
+    if eight {
         return 8;
     }
     if some_code(entries, n) {
@@ -295,10 +296,13 @@ fn no_blocks() -> Blocks
 {
     let c = block::zero_component();
     Blocks {
+        components: [c; 6],
         whole: false,
         zeroed: false,
+        six: false,
+        seven: false,
+        eight: false,
         end: 0,
-        components: [c; 6],
     }
 }
 
@@ -308,30 +312,46 @@ fn both(a: bool, b: bool) -> bool
     if a { b } else { false }
 }
 
-// The first n blocks of a sheet. Each is read from its own start, as a part of the sheet.
+fn either(a: bool, b: bool) -> bool
+    ensures { λ r. ⌜ r ≡ (a || b) ⌝ }
+{
+    if a { true } else { b }
+}
+
+// The first n blocks of a sheet. Each is read from its own start, as a part of the sheet, and its component is tested at once.
 fn read_blocks(sheet: &[u8], n: usize) -> Blocks
     requires { ⌜ (n ≤ 6) × (2 ≤ length (now sheet)) ⌝ }
     ensures { λ r. ⌜ r ≡ blocksIn (now (sheet .entry)) n ⌝ }
 {
     let c = block::zero_component();
-    let mut r = Blocks {
-        whole: true,
-        zeroed: true,
-        end: 2,
-        components: [c; 6],
-    };
+    let mut components = [c; 6];
+    let mut zeroed = true;
+    let mut six = false;
+    let mut seven = false;
+    let mut eight = false;
+    let mut end: usize = 2;
     for i in 0..n {
-        let at = r.end;
-        let b = block::read_block(&sheet[at..]);
+        let b = block::read_block(&sheet[end..]);
         if !b.whole {
             return no_blocks();
         }
         let d = b.component;
-        r.zeroed = both(r.zeroed, b.zeroed);
-        r.end = at + b.size;
-        r.components[i] = d;
+        zeroed = both(zeroed, b.zeroed);
+        six = either(six, bad_component(6, d));
+        seven = either(seven, bad_component(7, d));
+        eight = either(eight, bad_component(8, d));
+        end += b.size;
+        components[i] = d;
     }
-    r
+    Blocks {
+        components: components,
+        whole: true,
+        zeroed: zeroed,
+        six: six,
+        seven: seven,
+        eight: eight,
+        end: end,
+    }
 }
 
 // The m codes from bit at on.
@@ -357,74 +377,82 @@ fn refuse(number: u8) -> Reading
         entries: [0; 11],
     };
     Reading {
-        number: number,
         plan: p,
+        number: number,
     }
 }
 
-// The rules 6 to 11 on the plan that a sheet spells.
-fn judge(p: Plan) -> Reading
-    requires { ⌜ Sized p ⌝ }
-    ensures { λ r. ⌜ r ≡ reading (firstBroken (rules p)) p ⌝ }
+// Number 1, 2 or 3 of a sheet, or 0.
+fn head_number(sheet: &[u8]) -> u8
+    ensures { λ r. ⌜ r ≡ firstBroken (headTests (now (sheet .entry))) ⌝ }
 {
-    let number = first_rule(p);
-    if number != 0 {
-        return refuse(number);
+    let len = sheet.len();
+    if len < 2 {
+        return 1;
     }
-    Reading { number: 0, plan: p }
+    let head = reader::three(sheet, 0, 4, 4, 8);
+    if head.third as usize != len {
+        return 1;
+    }
+    if head.first != 1 {
+        return 2;
+    }
+    if is_outside(1, 6, head.second as usize) {
+        return 3;
+    }
+    0
 }
 
-// What stands behind the head of a sheet of n components.
-fn read_body(sheet: &[u8], n: usize) -> Reading
-    requires { ⌜ (1 ≤ n) × (n ≤ 6) × (n ≡ componentCount (now sheet)) × (2 ≤ length (now sheet)) × (length (now sheet) ≤ 255) ⌝ }
-    ensures { λ r. ⌜ r ≡ reading (firstBroken (bodyTests (now (sheet .entry)))) (planIn (now (sheet .entry))) ⌝ }
+// Number 4 or 5 of a sheet whose n blocks end before byte at, or 0.
+fn layout_number(sheet: &[u8], n: usize, whole: bool, zeroed: bool, at: usize) -> u8
+    requires { ⌜ (1 ≤ n) × (n ≤ 6) × (at ≤ 255) × (length (now sheet) ≤ 255) ⌝ }
+    ensures { λ r. ⌜ r ≡ firstBroken (layoutBy (now (sheet .entry)) n whole zeroed at) ⌝ }
 {
-    let b = read_blocks(sheet, n);
-    if !b.whole {
-        return refuse(4);
+    if !whole {
+        return 4;
     }
-    let at = b.end;
     if at + n != sheet.len() {
-        return refuse(4);
+        return 4;
     }
-    if !b.zeroed {
-        return refuse(5);
+    if !zeroed {
+        return 5;
     }
     let m = 2 * n - 1;
     let last = reader::three(sheet, 8 * at + 4 * m, 4, 0, 0);
     if last.first != 0 {
-        return refuse(5);
+        return 5;
     }
-    let components = b.components;
-    let entries = read_entries(sheet, 8 * at, m);
-    let p = Plan {
-        components: components,
-        count: n,
-        entries: entries,
-    };
-    judge(p)
+    0
 }
 
 // The plan of a sheet, or the least of the numbers 1 to 11 that applies.
 pub fn read_sheet(sheet: &[u8]) -> Reading
     ensures { λ r. ⌜ r ≡ readOf (now (sheet .entry)) ⌝ }
 {
-    let len = sheet.len();
-    if len < 2 {
-        return refuse(1);
+    let head = head_number(sheet);
+    if head != 0 {
+        return refuse(head);
     }
-    let head = reader::three(sheet, 0, 4, 4, 8);
-    if head.third as usize != len {
-        return refuse(1);
+    let t = reader::three(sheet, 4, 4, 0, 0);
+    let n = t.first as usize;
+    let b = read_blocks(sheet, n);
+    let at = b.end;
+    let layout = layout_number(sheet, n, b.whole, b.zeroed, at);
+    if layout != 0 {
+        return refuse(layout);
     }
-    if head.first != 1 {
-        return refuse(2);
+    let entries = read_entries(sheet, 8 * at, 2 * n - 1);
+    let number = first_rule(b.six, b.seven, b.eight, entries, n);
+    if number != 0 {
+        return refuse(number);
     }
-    let n = head.second as usize;
-    if is_outside(1, 6, n) {
-        return refuse(3);
-    }
-    read_body(sheet, n)
+    let components = b.components;
+    let p = Plan {
+        components: components,
+        count: n,
+        entries: entries,
+    };
+    Reading { plan: p, number: 0 }
 }
 
 // The bytes of the block of k intervals.
@@ -466,7 +494,14 @@ fn test_plan(p: Plan, room: usize) -> Written
             length: 0,
         };
     }
-    let number = first_rule(p);
+    let entries = p.entries;
+    let number = first_rule(
+        some_component(6, p),
+        some_component(7, p),
+        some_component(8, p),
+        entries,
+        n,
+    );
     if number != 0 {
         return Written {
             number: number,
