@@ -8,6 +8,7 @@ use Rattle.field.specs.Bits.{fieldAt}
 use Rattle.field.specs.Fields.{Field, bits}
 use Rattle.reader.specs.Three.{threeAt}
 use Rattle.reader.specs.declared.Triple.{Triple}
+use Rattle.theory.specs.Focal.{mostHeld}
 use Rattle.theory.specs.declared.Component.{Component}
 use Rattle.block.specs.Rows.{row}
 use Rattle.block.specs.declared.Block.{Block}
@@ -37,7 +38,7 @@ intervalIn s i = threeAt s (placeOf i) 12 12 10
 
 -- what number 4 asks of a block: k is 1 to 8, and it is not cut short
 unfoldable pub whole : List ℕ → Bool
-whole s = leb 1 (countIn s) && leb (countIn s) 8 && leb (sizeOf (countIn s)) (length s)
+whole s = leb 1 (countIn s) && leb (countIn s) mostHeld && leb (sizeOf (countIn s)) (length s)
 
 -- what number 5 asks of a block: its bits named zero are zero
 unfoldable pub zeroed : List ℕ → Bool
@@ -47,9 +48,9 @@ zeroed s = eqb (fieldAt s 4 2) 0 && eqb (fieldAt s (placeOf (countIn s)) (paddin
 unfoldable pub componentOf : List ℕ → ℕ → ℕ → Component
 componentOf s k t =
     record {
-      lows = row 0 8 (λ i. (intervalIn s i) .first) k;
-      highs = row 0 8 (λ i. (intervalIn s i) .second) k;
-      weights = row 0 8 (λ i. (intervalIn s i) .third) k;
+      lows = row 0 mostHeld (λ i. (intervalIn s i) .first) k;
+      highs = row 0 mostHeld (λ i. (intervalIn s i) .second) k;
+      weights = row 0 mostHeld (λ i. (intervalIn s i) .third) k;
       count = k;
       total = t;
     }
@@ -59,7 +60,7 @@ componentIn s = componentOf s (countIn s) (totalIn s)
 
 -- the component of zeros
 abbrev pub zeroComponent : Component
-zeroComponent = record { lows = replicate 8 0; highs = replicate 8 0; weights = replicate 8 0; count = 0; total = 0 }
+zeroComponent = record { lows = replicate mostHeld 0; highs = replicate mostHeld 0; weights = replicate mostHeld 0; count = 0; total = 0 }
 
 -- what is read where no whole block is
 abbrev pub noBlock : Block
@@ -85,9 +86,9 @@ fieldsOf c =
 unfoldable pub cleaned : Component → Component
 cleaned c =
     record {
-      lows = row 0 8 (λ i. getD (c .lows) i 0) (c .count);
-      highs = row 0 8 (λ i. getD (c .highs) i 0) (c .count);
-      weights = row 0 8 (λ i. getD (c .weights) i 0) (c .count);
+      lows = row 0 mostHeld (λ i. getD (c .lows) i 0) (c .count);
+      highs = row 0 mostHeld (λ i. getD (c .highs) i 0) (c .count);
+      weights = row 0 mostHeld (λ i. getD (c .weights) i 0) (c .count);
       count = c .count;
       total = c .total;
     }

@@ -26,14 +26,14 @@ use Rattle.sheet.specs.declared.Plan.{Plan}
 use Rattle.sheet.specs.Plan.{componentsOf, entriesOf}
 use Rattle.sheet.specs.Kept.{Kept}
 use Rattle.evaluate.specs.declared.Ran.{Ran}
-use Rattle.evaluate.specs.Answer.{storeBytes, refusal, planOutcomes, planList, run, ranOf, ran, answerBy, planAnswer}
+use Rattle.evaluate.specs.Answer.{storeBytes, refusal, planOutcomes, planList, runOf, ranOf, ran, answerBy, planAnswer}
 use Rattle.evaluate.specs.Store.{filled, cleared, storeBy}
 use Rattle.evaluate.proofs.Ending.{left-by}
 
 -- a run that is refused, and one that is accepted
 pub record Accepts (p : Plan) (allowance : ℕ) (r : Ran) : Type 0 where
   pub stack : List Tree
-  pub runs : run p allowance ≡ completed stack (r .pairs)
+  pub runs : runOf p allowance ≡ completed stack (r .pairs)
   pub length-is : r .intervals ≡ length (planList p)
 
 module _ (p : Plan) (allowance : ℕ) (r : Ran) (e : r ≡ ran p allowance) where
@@ -45,9 +45,9 @@ module _ (p : Plan) (allowance : ℕ) (r : Ran) (e : r ≡ ran p allowance) wher
       go (suc k) q z = ap (λ n. answerBy n p demand ((ran p allowance) .pairs)) q
 
   pub accepts : r .number ≡ 0 → Accepts p allowance r
-  accepts z = go (run p allowance) refl e
+  accepts z = go (runOf p allowance) refl e
     where
-      go : (v : Evaluation Tree) → run p allowance ≡ v → r ≡ ran p allowance → Accepts p allowance r
+      go : (v : Evaluation Tree) → runOf p allowance ≡ v → r ≡ ran p allowance → Accepts p allowance r
       go (completed stack pairs) q f =
           let g : r ≡ record { number = 0; pairs = pairs; intervals = length (planList p) } = f ∙ ap (λ (v : Evaluation Tree). ranOf v p) q in
           record { stack = stack; runs = q ∙ ap (completed stack) (sym (ap (λ (x : Ran). x .pairs) g)); length-is = ap (λ (x : Ran). x .intervals) g }
@@ -80,7 +80,7 @@ module _ (s : List ℕ) (h : storeBytes ≤ length s) where
       go false false = region
 
 -- the drive's list can be read back from its records
-module _ {p : Plan} (K : Kept p) (allowance : ℕ) {stack : List Tree} {pairs : ℕ} (r : run p allowance ≡ completed stack pairs) where
+module _ {p : Plan} (K : Kept p) (allowance : ℕ) {stack : List Tree} {pairs : ℕ} (r : runOf p allowance ≡ completed stack pairs) where
   L : Leaves (componentsOf p) (entriesOf p) stack pairs
   L = left-by K allowance stack pairs r
 

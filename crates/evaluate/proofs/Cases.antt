@@ -15,7 +15,7 @@ use Rattle.sheet.specs.declared.Plan.{Plan}
 use Rattle.sheet.specs.Plan.{componentsOf, entriesOf}
 use Rattle.sheet.specs.Reading.{readOf}
 use Rattle.evaluate.specs.declared.Answer.{Answer}
-use Rattle.evaluate.specs.Answer.{storeBytes, refusal, planList, run, ran, number, answerBy, planAnswer, answer}
+use Rattle.evaluate.specs.Answer.{storeBytes, refusal, planList, runOf, ran, number, answerBy, planAnswer, answer}
 use Rattle.evaluate.specs.Store.{storeBy, storeAfter}
 use Rattle.evaluate.proofs.First.{sheet-number}
 
@@ -48,13 +48,13 @@ module _ (s : List ℕ) (allowance room : ℕ) where
   pub data Case : ℕ → Type 0 where
     unread : {k : ℕ} → 0 < k → (readOf s) .number ≡ k → Case k
     short : (readOf s) .number ≡ 0 → room < storeBytes → Case 12
-    stopped : {k : ℕ} → (readOf s) .number ≡ 0 → storeBytes ≤ room → (k ≡ 13) ⊎ (k ≡ 14) → run plan allowance ≡ refused k → Case k
-    accepted : {stack : List Tree} {pairs : ℕ} → (readOf s) .number ≡ 0 → storeBytes ≤ room → run plan allowance ≡ completed stack pairs → Case 0
+    stopped : {k : ℕ} → (readOf s) .number ≡ 0 → storeBytes ≤ room → (k ≡ 13) ⊎ (k ≡ 14) → runOf plan allowance ≡ refused k → Case k
+    accepted : {stack : List Tree} {pairs : ℕ} → (readOf s) .number ≡ 0 → storeBytes ≤ room → runOf plan allowance ≡ completed stack pairs → Case 0
 
   pub case : Case (number s allowance room)
-  case = go (eqb ((readOf s) .number) 0) refl (ltb room storeBytes) refl (run plan allowance) refl
+  case = go (eqb ((readOf s) .number) 0) refl (ltb room storeBytes) refl (runOf plan allowance) refl
     where
-      go : (a : Bool) → eqb ((readOf s) .number) 0 ≡ a → (b : Bool) → ltb room storeBytes ≡ b → (v : Evaluation Tree) → run plan allowance ≡ v → Case (number s allowance room)
+      go : (a : Bool) → eqb ((readOf s) .number) 0 ≡ a → (b : Bool) → ltb room storeBytes ≡ b → (v : Evaluation Tree) → runOf plan allowance ≡ v → Case (number s allowance room)
       go false p b q v r =
           let n : (readOf s) .number ≡ 0 → ⊥ = eqb-false ((readOf s) .number) 0 p in
           let h : 0 < (readOf s) .number = omega arith in

@@ -23,7 +23,7 @@ use Rattle.lists.specs.Building.{Filled, holdingFrom, settled}
 use Rattle.lists.proofs.Store.{fill-made}
 use Rattle.sheet.specs.Plan.{entryCount, componentsOf, entryOf, entriesOf}
 use Rattle.sheet.specs.Kept.{Kept}
-use Rattle.evaluate.specs.Answer.{storeBytes, planList, run, ran}
+use Rattle.evaluate.specs.Answer.{storeBytes, planList, runOf, ran}
 use Rattle.evaluate.specs.Store.{filled, cleared, storeBy}
 use Rattle.evaluate.specs.declared.Step.{Step}
 use Rattle.evaluate.specs.declared.Stack.{Stack}
@@ -34,7 +34,7 @@ use Rattle.evaluate.proofs.Running.{walkLists, Running, join-weighty, j
 -- What a completed run leaves in the store.
 pub record Finished (p : Plan) (allowance : ℕ) (store : List ℕ) (st : Stack) : Type 0 where
   pub stack : List Tree
-  pub runs : run p allowance ≡ completed stack (st .pairs)
+  pub runs : runOf p allowance ≡ completed stack (st .pairs)
   pub one : st .depth ≡ 1
   pub list : listAt store st 0 ≡ planList p
 
@@ -42,13 +42,13 @@ module _ {p : Plan} (K : Kept p) (allowance : ℕ) where
   abbrev cs : List Component
   cs = componentsOf p
 
-  as-lists : walkLists p allowance (entriesOf p) [] 0 ≡ image (listOf cs) (run p allowance)
+  as-lists : walkLists p allowance (entriesOf p) [] 0 ≡ image (listOf cs) (runOf p allowance)
   as-lists = evaluate-lists (K .weighty) allowance (entriesOf p)
 
-  pub stops : (k : ℕ) → walkLists p allowance (entriesOf p) [] 0 ≡ refused k → run p allowance ≡ refused k
-  stops k e = go (run p allowance) refl (sym as-lists ∙ e)
+  pub stops : (k : ℕ) → walkLists p allowance (entriesOf p) [] 0 ≡ refused k → runOf p allowance ≡ refused k
+  stops k e = go (runOf p allowance) refl (sym as-lists ∙ e)
     where
-      go : (r : Evaluation Tree) → run p allowance ≡ r → image (listOf cs) r ≡ refused k → r ≡ refused k
+      go : (r : Evaluation Tree) → runOf p allowance ≡ r → image (listOf cs) r ≡ refused k → r ≡ refused k
       go (completed stack pairs) q i = let z : _≡_ {A = ℕ} 0 1 = cc in absurd (omega arith)
       go (refused n) q i = ap refused (let z = i in cc)
 
@@ -57,21 +57,21 @@ module _ {p : Plan} (K : Kept p) (allowance : ℕ) where
   one-list store st (suc zero) l e = (refl, cc)
   one-list store st (suc (suc d)) l e = let z : _≡_ {A = ℕ} 0 1 = cc in absurd (omega arith)
 
-  pub left-by : (stack : List Tree) (pairs : ℕ) → run p allowance ≡ completed stack pairs → Leaves cs (entriesOf p) stack pairs
+  pub left-by : (stack : List Tree) (pairs : ℕ) → runOf p allowance ≡ completed stack pairs → Leaves cs (entriesOf p) stack pairs
   left-by = method (K .weighty) allowance (entriesOf p) (K .entries ∙ ap (2 *_) (sym (components-count p))) (λ i. K .namedOnce i ∙ named i) (K .findTwo)
     where
       named : (i : ℕ) → _≡_ {A = ℕ} (cond (ltb i (p .count)) 1 0) (cond (ltb i (length cs)) 1 0)
       named i = ap (λ n. cond (ltb i n) 1 0) (sym (components-count p))
 
   pub finishes : {store : List ℕ} {st : Stack} (i : ℕ) → entryCount (p .count) ≤ i → Running p allowance i store st → Finished p allowance store st
-  finishes {store} {st} i h R = go (run p allowance) refl ended
+  finishes {store} {st} i h R = go (runOf p allowance) refl ended
     where
-      ended : completed (listsBelow store st (st .depth)) (st .pairs) ≡ image (listOf cs) (run p allowance)
+      ended : completed (listsBelow store st (st .depth)) (st .pairs) ≡ image (listOf cs) (runOf p allowance)
       ended =
           ap (λ (fs : List Entry). walkLists p allowance fs (listsBelow store st (st .depth)) (st .pairs)) (sym (drop-of-length-le (entriesOf p) {i = i} (omega (arith, entries-count p))))
           ∙ (R .walks ∙ as-lists)
 
-      go : (r : Evaluation Tree) → run p allowance ≡ r → completed (listsBelow store st (st .depth)) (st .pairs) ≡ image (listOf cs) (run p allowance) → Finished p allowance store st
+      go : (r : Evaluation Tree) → runOf p allowance ≡ r → completed (listsBelow store st (st .depth)) (st .pairs) ≡ image (listOf cs) (runOf p allowance) → Finished p allowance store st
       go (refused n) q e = let f : completed (listsBelow store st (st .depth)) (st .pairs) ≡ refused n = e ∙ ap (image (listOf cs)) q in let z : _≡_ {A = ℕ} 0 1 = cc in absurd (omega arith)
       go (completed stack pairs) q e =
           let f : completed (listsBelow store st (st .depth)) (st .pairs) ≡ completed (map (listOf cs) stack) pairs = e ∙ ap (image (listOf cs)) q in
@@ -89,8 +89,8 @@ module _ {p : Plan} (K : Kept p) {allowance i : ℕ} {store : List ℕ} {st : St
 
   -- the three ways out of a join
   pub data Out (s : Step) (after : List ℕ) : Type 0 where
-    thirteen : s ≡ stop 13 st → run p allowance ≡ refused 13 → Out s after
-    fourteen : s ≡ stop 14 st → run p allowance ≡ refused 14 → Out s after
+    thirteen : s ≡ stop 13 st → runOf p allowance ≡ refused 13 → Out s after
+    fourteen : s ≡ stop 14 st → runOf p allowance ≡ refused 14 → Out s after
     goes-on : s .number ≡ 0 → Running p allowance (suc i) after (s .stack) → Out s after
 
   pub join-out : (s : Step) (after : List ℕ) → s ≡ joinStep op allowance store st → after ≡ joinStore op allowance store st → Out s after

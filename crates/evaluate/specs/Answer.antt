@@ -32,8 +32,8 @@ abbrev pub planList : Plan → List Focal
 planList p = driveList (entriesOf p) (componentsOf p)
 
 -- The plan runs: 13 or 14 at a join, or the pairs formed.
-abbrev pub run : Plan → ℕ → Evaluation Tree
-run p allowance = evaluate (componentsOf p) allowance (entriesOf p)
+abbrev pub runOf : Plan → ℕ → Evaluation Tree
+runOf p allowance = evaluate (componentsOf p) allowance (entriesOf p)
 
 -- what the run itself answers: number, pairs and the length of the drive's list
 abbrev pub ranOf : Evaluation Tree → Plan → Ran
@@ -41,7 +41,7 @@ ranOf (completed stack pairs) p = record { number = 0; pairs = pairs; intervals 
 ranOf (refused number) p = record { number = number; pairs = 0; intervals = 0 }
 
 abbrev pub ran : Plan → ℕ → Ran
-ran p allowance = ranOf (run p allowance) p
+ran p allowance = ranOf (runOf p allowance) p
 
 -- The number of a call, by what the sheet reads as: 1 to 11; then 12, the store has too few bytes; then that of the run.
 abbrev pub numberOf : Reading → ℕ → ℕ → ℕ

@@ -20,7 +20,7 @@ use Rattle.sheet.specs.Tests.{Test}
 use Rattle.sheet.specs.Plan.{componentsOf, entriesOf, cleanedPlan}
 use Rattle.sheet.specs.Reading.{sheetTests, readOf}
 use Rattle.sheet.specs.Writing.{planTests, writtenOf, bytesAfter}
-use Rattle.evaluate.specs.Answer.{storeBytes, refusal, run, answer}
+use Rattle.evaluate.specs.Answer.{storeBytes, refusal, runOf, answer}
 use Rattle.evaluate.specs.Store.{filled, cleared, storeAfter}
 
 abbrev pub Unbroken : Test → Type 0
@@ -44,14 +44,14 @@ pub record Passed (s : List ℕ) (allowance room : ℕ) : Type 0 where
   pub store : storeBytes ≤ room
   pub stack : List Tree
   pub pairs : ℕ
-  pub runs : run ((readOf s) .plan) allowance ≡ completed stack pairs
+  pub runs : runOf ((readOf s) .plan) allowance ≡ completed stack pairs
 
 -- k is the number of the first rule that is broken: of 1 to 11, each looking at the whole sheet before the next; then 12; then 13 or 14
 -- at a join, as the evaluation looks for them.
 pub data Broken (s : List ℕ) (allowance room : ℕ) : ℕ → Type 0 where
   by-sheet : {k : ℕ} → First (sheetTests s) k → Broken s allowance room k
   by-store : Every Unbroken (sheetTests s) → room < storeBytes → Broken s allowance room 12
-  by-join : {k : ℕ} → Every Unbroken (sheetTests s) → storeBytes ≤ room → (k ≡ 13) ⊎ (k ≡ 14) → run ((readOf s) .plan) allowance ≡ refused k
+  by-join : {k : ℕ} → Every Unbroken (sheetTests s) → storeBytes ≤ room → (k ≡ 13) ⊎ (k ≡ 14) → runOf ((readOf s) .plan) allowance ≡ refused k
       → Broken s allowance room k
 
 -- Demand 1, for every sheet, demand, allowance and store.

@@ -12,12 +12,13 @@ use Rattle.theory.specs.declared.Component.{Component}
 use Rattle.theory.specs.declared.Join.{Join}
 use Rattle.lists.specs.Records.{recordBytes}
 use Rattle.lists.specs.Building.{fill, listIn, holdingFrom}
+use Rattle.sheet.specs.Plan.{mostComponents}
 use Rattle.evaluate.specs.declared.Stack.{Stack}
 use Rattle.evaluate.specs.declared.Step.{Step}
 
 -- no lists, no pairs
 abbrev pub emptyStack : Stack
-emptyStack = record { starts = replicate 6 0; counts = replicate 6 0; depth = 0; free = 0; pairs = 0 }
+emptyStack = record { starts = replicate mostComponents 0; counts = replicate mostComponents 0; depth = 0; free = 0; pairs = 0 }
 
 -- list k of the stack, counted from the bottom
 abbrev pub listAt : List ℕ → Stack → ℕ → List Focal

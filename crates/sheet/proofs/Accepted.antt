@@ -13,7 +13,7 @@ use Rattle.sheet.specs.declared.Plan.{Plan}
 use Rattle.sheet.specs.Tests.{Test, test, firstBroken, some}
 use Rattle.sheet.specs.Plan.{mostComponents, componentAt}
 use Rattle.sheet.specs.Rules.{rule3, badCount, rule4, rules, Sized}
-use Rattle.sheet.specs.Writing.{numberOf, lengthOf, sheetFields, planTests, written, writtenOf, bytesOf, bytesAfter}
+use Rattle.sheet.specs.Writing.{numberOf, lengthOf, sheetFields, planTests, written, writtenOf, bytesBy, bytesAfter}
 use Rattle.sheet.proofs.Loops.{some-map}
 use Rattle.sheet.proofs.Premises.{numbered}
 use Rattle.sheet.proofs.Some.{each, some-below, within, all-kept, none-broken}
@@ -88,7 +88,7 @@ pub refused-stays : (p : Plan) (s : List ℕ) → (numberOf p (length s) ≡ 0 �
 unfolding bytesAfter
 refused-stays p s = go (numberOf p (length s))
   where
-    go : (k : ℕ) → (k ≡ 0 → ⊥) → bytesOf k s (sheetFields p) ≡ s
+    go : (k : ℕ) → (k ≡ 0 → ⊥) → bytesBy k s (sheetFields p) ≡ s
     go zero h = absurd (h refl)
     go (suc k) h = refl
 

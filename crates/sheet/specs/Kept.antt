@@ -4,7 +4,7 @@ use mathlib.Core.Path.{_≡_}
 use mathlib.Core.Bool.{true, false}
 use lib.ListN.{length}
 use Rattle.theory.specs.Sums.{Every}
-use Rattle.theory.specs.Focal.{masses, AllInRange, AllWeighty, Balanced}
+use Rattle.theory.specs.Focal.{mostHeld, mostTotal, masses, AllInRange, AllWeighty, Balanced}
 use Rattle.theory.specs.Structure.{joinsFindTwo, NamedOnce}
 use Rattle.theory.specs.Lists.{InOrder}
 use Rattle.sheet.specs.declared.Plan.{Plan}
@@ -14,8 +14,8 @@ use Rattle.sheet.specs.Rules.{badCode}
 pub record Kept (p : Plan) : Type 0 where
   pub least : 1 ≤ p .count
   pub most : p .count ≤ mostComponents
-  pub counts : Every (λ c. (1 ≤ c .count) × (c .count ≤ 8)) (componentsOf p)
-  pub totals : Every (λ c. (1 ≤ c .total) × (c .total ≤ 1000)) (componentsOf p)
+  pub counts : Every (λ c. (1 ≤ c .count) × (c .count ≤ mostHeld)) (componentsOf p)
+  pub totals : Every (λ c. (1 ≤ c .total) × (c .total ≤ mostTotal)) (componentsOf p)
   pub inRange : AllInRange (componentsOf p)
   pub weighty : AllWeighty (componentsOf p)
   pub ordered : Every (λ c. InOrder (masses c)) (componentsOf p)

@@ -4,7 +4,7 @@ use mathlib.Core.Bool.{Bool, cond, not, _&&_, _||_}
 use mathlib.Core.List.{List, [], _∷_}
 use lib.Dec.{ltb, leb, eqb}
 use Rattle.theory.specs.Sums.{countFrom, countOf}
-use Rattle.theory.specs.Focal.{Focal, topSpeed, focalAt, masses, weights}
+use Rattle.theory.specs.Focal.{Focal, topSpeed, mostHeld, mostTotal, focalAt, masses, weights}
 use Rattle.theory.specs.Structure.{Entry, named, joinsFindTwo}
 use Rattle.theory.specs.declared.Component.{Component}
 use Rattle.sheet.specs.declared.Plan.{Plan}
@@ -17,7 +17,7 @@ rule3 n = outside 1 mostComponents n
 
 -- 4, of a plan only k: an interval count is not 1 to 8
 abbrev pub badCount : Component → Bool
-badCount c = outside 1 8 (c .count)
+badCount c = outside 1 mostHeld (c .count)
 
 -- of a plan
 unfoldable pub rule4 : Plan → Bool
@@ -25,7 +25,7 @@ rule4 p = some badCount (componentsOf p)
 
 -- 6: a T is not 1 to 1,000
 abbrev pub badTotal : Component → Bool
-badTotal c = outside 1 1000 (c .total)
+badTotal c = outside 1 mostTotal (c .total)
 
 -- of a plan
 unfoldable pub rule6 : Plan → Bool
@@ -105,4 +105,4 @@ rulesOf six seven eight entries n =
 pub record Sized (p : Plan) : Type 0 where
   pub least : 1 ≤ p .count
   pub most : p .count ≤ mostComponents
-  pub each : (i : ℕ) → i < p .count → (componentAt p i) .count ≤ 8
+  pub each : (i : ℕ) → i < p .count → (componentAt p i) .count ≤ mostHeld

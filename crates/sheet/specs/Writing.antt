@@ -55,10 +55,10 @@ unfoldable pub writtenOf : Plan → ℕ → Written
 writtenOf p room = written (numberOf p room) (lengthOf p)
 
 -- Refused, nothing is written; accepted, the sheet stands at the front and the bytes behind it are untouched.
-abbrev pub bytesOf : ℕ → List ℕ → List Field → List ℕ
-bytesOf zero buffer fields = putAll buffer 0 fields
-bytesOf (suc k) buffer fields = buffer
+abbrev pub bytesBy : ℕ → List ℕ → List Field → List ℕ
+bytesBy zero buffer fields = putAll buffer 0 fields
+bytesBy (suc k) buffer fields = buffer
 
 -- the buffer's bytes afterwards
 unfoldable pub bytesAfter : Plan → List ℕ → List ℕ
-bytesAfter p buffer = bytesOf (numberOf p (length buffer)) buffer (sheetFields p)
+bytesAfter p buffer = bytesBy (numberOf p (length buffer)) buffer (sheetFields p)

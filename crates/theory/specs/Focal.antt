@@ -10,6 +10,13 @@ use Rattle.theory.specs.declared.Component.{Component}
 abbrev pub topSpeed : ℕ
 topSpeed = 4095
 
+-- the most intervals that a component holds, and its highest total T
+abbrev pub mostHeld : ℕ
+mostHeld = 8
+
+abbrev pub mostTotal : ℕ
+mostTotal = 1000
+
 -- A focal element (source 002, definition 2.2): an interval of speeds, both ends inside it, with its weight.
 pub record Focal : Type 0 where
   pub low : ℕ

@@ -1,5 +1,6 @@
 -- The drive calculation as document 01 defines it, in its order: "Words", "Joins", "Pairs, allowance and store", and the bounds that
--- demand 3 asks for.
+-- demand 3 asks for. Document 01 is the requirement; source 002 is Wagenknecht and Gocht, "On the reliability of multistate systems with
+-- imprecise probabilities".
 pub mod Sums
 pub mod Focal
 pub mod Joins
