@@ -223,9 +223,9 @@ fn print_answer(a: Answer) {
 fn print_record(store: &[u8; 16384], i: usize)
     requires { ⌜ i < 256 ⌝ }
 {
-    print(b" [", lists::read_number(store, 12 * i, 2));
-    print(b",", lists::read_number(store, 12 * i + 2, 2));
-    print(b"] ", lists::read_number(store, 12 * i + 4, 8));
+    print(b" [", numbers::read_number(store, 12 * i, 2));
+    print(b",", numbers::read_number(store, 12 * i + 2, 2));
+    print(b"] ", numbers::read_number(store, 12 * i + 4, 8));
 }
 
 // Prints a short list.
@@ -247,13 +247,13 @@ fn record_agrees(store: &[u8; 16384], i: usize, list: &[u64]) -> bool
     if list.len() < 3 * i + 3 {
         return false;
     }
-    if lists::read_number(store, 12 * i, 2) != list[3 * i] {
+    if numbers::read_number(store, 12 * i, 2) != list[3 * i] {
         return false;
     }
-    if lists::read_number(store, 12 * i + 2, 2) != list[3 * i + 1] {
+    if numbers::read_number(store, 12 * i + 2, 2) != list[3 * i + 1] {
         return false;
     }
-    lists::read_number(store, 12 * i + 4, 8) == list[3 * i + 2]
+    numbers::read_number(store, 12 * i + 4, 8) == list[3 * i + 2]
 }
 
 fn list_agrees(store: &[u8; 16384], count: u64, list: &[u64]) -> bool {

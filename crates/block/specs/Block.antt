@@ -8,7 +8,7 @@ use Rattle.field.specs.Bits.{fieldAt}
 use Rattle.field.specs.Fields.{Field, bits}
 use Rattle.reader.specs.Three.{threeAt}
 use Rattle.reader.specs.declared.Triple.{Triple}
-use Rattle.theory.specs.Focal.{mostHeld}
+use Rattle.theory.specs.Limits.{mostHeld}
 use Rattle.theory.specs.declared.Component.{Component}
 use Rattle.block.specs.Rows.{row}
 use Rattle.block.specs.declared.Block.{Block}

@@ -54,9 +54,9 @@ fn print_answer(a: Answer) {
 fn print_record(store: &[u8], at: usize)
     requires { ⌜ at + 12 ≤ length (now store) ⌝ }
 {
-    io::print_decimal(STDOUT_FILENO, lists::read_number(store, at, 2));
-    print_field(b" ", lists::read_number(store, at + 2, 2));
-    print_field(b" ", lists::read_number(store, at + 4, 8));
+    io::print_decimal(STDOUT_FILENO, numbers::read_number(store, at, 2));
+    print_field(b" ", numbers::read_number(store, at + 2, 2));
+    print_field(b" ", numbers::read_number(store, at + 4, 8));
     io::write_all(STDOUT_FILENO, b"\n");
 }
 

@@ -4,7 +4,7 @@ use mathlib.Core.Bool.{cond}
 use mathlib.Core.List.{List, _++_}
 use lib.Dec.{ltb}
 use lib.ListN.{length, drop}
-use Rattle.lists.specs.Records.{bigEndian}
+use Rattle.numbers.specs.Numbers.{bigEndian}
 use Rattle.evaluate.specs.declared.Answer.{Answer}
 use Rattle.evaluate.specs.Answer.{answer}
 use Rattle.evaluate.specs.Store.{storeAfter}

@@ -14,11 +14,11 @@ fn put_answer(a: Answer, reply: &mut [u8])
     requires { ⌜ answerBytes ≤ length (now reply) ⌝ }
     ensures { λ _. ⌜ now (reply .exit) ≡ encodeAnswer a ++ drop answerBytes (now (reply .entry)) ⌝ }
 {
-    lists::write_number(reply, 0, 8, a.total);
-    lists::write_number(reply, 8, 8, a.belief);
-    lists::write_number(reply, 16, 8, a.plausibility);
-    lists::write_number(reply, 24, 8, a.pairs);
-    lists::write_number(reply, 32, 8, a.intervals);
+    numbers::write_number(reply, 0, 8, a.total);
+    numbers::write_number(reply, 8, 8, a.belief);
+    numbers::write_number(reply, 16, 8, a.plausibility);
+    numbers::write_number(reply, 24, 8, a.pairs);
+    numbers::write_number(reply, 32, 8, a.intervals);
 }
 
 // Returns the number. The answer goes to the front of `answer`, the drive's list to the front of `list`; the header host/drive.h is the

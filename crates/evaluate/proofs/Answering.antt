@@ -19,14 +19,15 @@ use Rattle.theory.proofs.Method.{Leaves}
 use Rattle.theory.proofs.Structure.{named-length, leafCount, run-leaves}
 use Rattle.theory.proofs.Totals.{speeds-fit, weight-fits}
 use Rattle.theory.proofs.Walk.{evaluate-refused}
-use Rattle.lists.specs.Records.{recordBytes, encode, records, Under}
+use Rattle.theory.specs.Limits.{recordBytes, storeBytes}
+use Rattle.lists.specs.Records.{encode, records, Under}
 use Rattle.lists.specs.Building.{sharesOf}
 use Rattle.lists.proofs.Records.{length-encode, records-encode}
 use Rattle.sheet.specs.declared.Plan.{Plan}
 use Rattle.sheet.specs.Plan.{componentsOf, entriesOf}
 use Rattle.sheet.specs.Kept.{Kept}
 use Rattle.evaluate.specs.declared.Ran.{Ran}
-use Rattle.evaluate.specs.Answer.{storeBytes, refusal, planOutcomes, planList, runOf, ranOf, ran, answerBy, planAnswer}
+use Rattle.evaluate.specs.Answer.{refusal, planOutcomes, planList, runOf, ranOf, ran, answerBy, planAnswer}
 use Rattle.evaluate.specs.Store.{filled, cleared, storeBy}
 use Rattle.evaluate.proofs.Ending.{left-by}
 

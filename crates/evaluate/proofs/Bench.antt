@@ -9,7 +9,8 @@ use Rattle.block.specs.Block.{whole, zeroed, componentOf}
 use Rattle.sheet.specs.Rules.{rule6, rule7, rule8, rule9, rule10, rule11}
 use Rattle.sheet.specs.Reading.{startOf, planIn, badLayout, badZeros, readOf}
 use Rattle.evaluate.specs.declared.Answer.{Answer}
-use Rattle.evaluate.specs.Answer.{storeBytes, refusal, planList, number, answer}
+use Rattle.theory.specs.Limits.{storeBytes}
+use Rattle.evaluate.specs.Answer.{refusal, planList, number, answer}
 
 abbrev iv : ℕ → ℕ → ℕ → Focal
 iv low high weight = record { low = low; high = high; weight = weight }

@@ -15,7 +15,8 @@ use Rattle.sheet.specs.declared.Plan.{Plan}
 use Rattle.sheet.specs.Plan.{componentsOf, entriesOf}
 use Rattle.sheet.specs.Reading.{readOf}
 use Rattle.evaluate.specs.declared.Answer.{Answer}
-use Rattle.evaluate.specs.Answer.{storeBytes, refusal, planList, runOf, ran, number, answerBy, planAnswer, answer}
+use Rattle.theory.specs.Limits.{storeBytes}
+use Rattle.evaluate.specs.Answer.{refusal, planList, runOf, ran, number, answerBy, planAnswer, answer}
 use Rattle.evaluate.specs.Store.{storeBy, storeAfter}
 use Rattle.evaluate.proofs.First.{sheet-number}
 

@@ -5,7 +5,7 @@ use mathlib.Core.Logic.{_⊎_, inl, inr}
 use mathlib.Core.List.{List}
 use native.Mathlib.Omega.{arith}
 use lib.ListN.{length}
-use Rattle.theory.specs.Structure.{Entry}
+use Rattle.theory.specs.declared.Entry.{Entry}
 use Rattle.theory.specs.Choices.{outcomes}
 use Rattle.theory.specs.Bounds.{Bounds}
 use Rattle.theory.specs.declared.Component.{Component}

@@ -8,28 +8,31 @@ use lib.Dec.{ltb}
 use borrow.Author.Tests.{ltb-true, ltb-false}
 use lib.ListN.{length, getD, take, drop, replicate, drop-of-length-le}
 use Rattle.theory.specs.Focal.{Focal}
-use Rattle.theory.specs.Structure.{Entry, join, Tree}
+use Rattle.theory.specs.declared.Entry.{Entry}
+use Rattle.theory.specs.declared.Entry.the-variants.{Join as join}
+use Rattle.theory.specs.Structure.{Tree}
 use Rattle.theory.specs.Lists.{driveList, joinLists, listOf}
-use Rattle.theory.specs.Evaluation.{mostIntervals, Evaluation, completed, refused}
+use Rattle.theory.specs.Evaluation.{Evaluation, completed, refused}
+use Rattle.theory.specs.Limits.{mostIntervals, entryCount, recordBytes, storeBytes}
 use Rattle.theory.specs.declared.Component.{Component}
 use Rattle.theory.specs.declared.Join.{Join}
-use Rattle.theory.proofs.Steps.{weighty-pairs}
+use Rattle.theory.proofs.Steps.{positive-pairs}
 use Rattle.theory.proofs.Structure.{named-length}
 use Rattle.theory.proofs.Walk.{image, evaluate-lists}
 use Rattle.theory.proofs.Method.{Leaves, method}
 use Rattle.sheet.specs.declared.Plan.{Plan}
-use Rattle.lists.specs.Records.{recordBytes, encode}
+use Rattle.lists.specs.Records.{encode}
 use Rattle.lists.specs.Building.{Filled, holdingFrom, settled}
 use Rattle.lists.proofs.Store.{fill-made}
-use Rattle.sheet.specs.Plan.{entryCount, componentsOf, entryOf, entriesOf}
+use Rattle.sheet.specs.Plan.{componentsOf, entryOf, entriesOf}
 use Rattle.sheet.specs.Kept.{Kept}
-use Rattle.evaluate.specs.Answer.{storeBytes, planList, runOf, ran}
+use Rattle.evaluate.specs.Answer.{planList, runOf, ran}
 use Rattle.evaluate.specs.Store.{filled, cleared, storeBy}
 use Rattle.evaluate.specs.declared.Step.{Step}
 use Rattle.evaluate.specs.declared.Stack.{Stack}
 use Rattle.evaluate.specs.Stack.{listAt, listsBelow, withList, left, right, spent, stop, joinStep, joinStore}
 use Rattle.evaluate.proofs.Entries.{counted, joins-split, named-split, components-count, entries-count}
-use Rattle.evaluate.proofs.Running.{walkLists, Running, join-weighty, join-13, join-14, join-next}
+use Rattle.evaluate.proofs.Running.{walkLists, Running, join-positive, join-13, join-14, join-next}
 
 -- What a completed run leaves in the store.
 pub record Finished (p : Plan) (allowance : ℕ) (store : List ℕ) (st : Stack) : Type 0 where
@@ -43,7 +46,7 @@ module _ {p : Plan} (K : Kept p) (allowance : ℕ) where
   cs = componentsOf p
 
   as-lists : walkLists p allowance (entriesOf p) [] 0 ≡ image (listOf cs) (runOf p allowance)
-  as-lists = evaluate-lists (K .weighty) allowance (entriesOf p)
+  as-lists = evaluate-lists (K .positive) allowance (entriesOf p)
 
   pub stops : (k : ℕ) → walkLists p allowance (entriesOf p) [] 0 ≡ refused k → runOf p allowance ≡ refused k
   stops k e = go (runOf p allowance) refl (sym as-lists ∙ e)
@@ -58,7 +61,7 @@ module _ {p : Plan} (K : Kept p) (allowance : ℕ) where
   one-list store st (suc (suc d)) l e = let z : _≡_ {A = ℕ} 0 1 = cc in absurd (omega arith)
 
   pub left-by : (stack : List Tree) (pairs : ℕ) → runOf p allowance ≡ completed stack pairs → Leaves cs (entriesOf p) stack pairs
-  left-by = method (K .weighty) allowance (entriesOf p) (K .entries ∙ ap (2 *_) (sym (components-count p))) (λ i. K .namedOnce i ∙ named i) (K .findTwo)
+  left-by = method (K .positive) allowance (entriesOf p) (K .entries ∙ ap (2 *_) (sym (components-count p))) (λ i. K .namedOnce i ∙ named i) (K .findTwo)
     where
       named : (i : ℕ) → _≡_ {A = ℕ} (cond (ltb i (p .count)) 1 0) (cond (ltb i (length cs)) 1 0)
       named i = ap (λ n. cond (ltb i n) 1 0) (sym (components-count p))
@@ -103,8 +106,8 @@ module _ {p : Plan} (K : Kept p) {allowance i : ℕ} {store : List ℕ} {st : St
           (stops K allowance 14 (join-14 K R h op q (ltb-false allowance (spent st) x) (ltb-true mostIntervals (length list) y)))
       go false x false y =
           let m : length list ≤ mostIntervals = ltb-false mostIntervals (length list) y in
-          let w = join-weighty K R h op q in
-          let fits : after ≡ holdingFrom store (st .free) list = f ∙ rw x (ap (λ (g : Filled). holdingFrom store (st .free) (g .list)) (fill-made (weighty-pairs op (w .0) (w .1)) m)) in
+          let w = join-positive K R h op q in
+          let fits : after ≡ holdingFrom store (st .free) list = f ∙ rw x (ap (λ (g : Filled). holdingFrom store (st .free) (g .list)) (fill-made (positive-pairs op (w .0) (w .1)) m)) in
           let s-is : s ≡ record { number = 0; stack = withList st (st .depth - 2) (length list) (spent st) } = e ∙ rw (x, y) refl in
           goes-on (ap (λ (t : Step). t .number) s-is)
           (subst (λ (t : Stack). Running p allowance (suc i) after t) (sym (ap (λ (t : Step). t .stack) s-is))

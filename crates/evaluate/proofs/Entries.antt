@@ -8,14 +8,17 @@ use lib.Dec.{leb, ltb, eqb}
 use borrow.Author.Tests.{eqb-false, ltb-false, leb-false, lt-ltb, ne-eqb}
 use lib.ListN.{length, getD, take, drop, length-map, take-append-drop}
 use Rattle.theory.specs.Sums.{countFrom}
-use Rattle.theory.specs.Structure.{Entry, component, join, step, run, named}
+use Rattle.theory.specs.declared.Entry.{Entry}
+use Rattle.theory.specs.declared.Entry.the-variants.{Component as component, Join as join}
+use Rattle.theory.specs.Structure.{step, run, named}
 use Rattle.theory.specs.Lists.{noComponent}
 use Rattle.theory.proofs.Sums.{length-count}
 use Rattle.theory.specs.declared.Join.{Join}
 use Rattle.sheet.specs.declared.Plan.{Plan}
 use Rattle.sheet.specs.Rules.{badCode}
 use Rattle.sheet.proofs.Some.{neither}
-use Rattle.sheet.specs.Plan.{entryCount, componentAt, componentsOf, codesOf, entryOf, entriesOf}
+use Rattle.theory.specs.Limits.{entryCount}
+use Rattle.sheet.specs.Plan.{componentAt, componentsOf, codesOf, entryOf, entriesOf}
 
 -- how many joins entries have
 abbrev pub joinCount : List Entry → ℕ

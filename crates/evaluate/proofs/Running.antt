@@ -11,26 +11,28 @@ use borrow.Author.Tests.{lt-ltb, le-ltb}
 use lib.ListN.{length, getD, set, take, drop, length-set, length-map, length-append}
 use lib.Seq.{take-suc, drop-cons, getD-set-same, getD-set-other}
 use Rattle.theory.specs.Sums.{countFrom, Every}
-use Rattle.theory.specs.Focal.{Focal, focalAt, masses, weights, InRange, Weighty}
-use Rattle.theory.specs.Structure.{Entry, component, join, step, run, named, joinsFindTwo, Tree, leaf, node, leaves}
+use Rattle.theory.specs.Focal.{Focal, focalAt, masses, weights, InRange, Positive}
+use Rattle.theory.specs.declared.Entry.{Entry}
+use Rattle.theory.specs.declared.Entry.the-variants.{Component as component, Join as join}
+use Rattle.theory.specs.Structure.{step, run, named, joinsFindTwo, Tree, leaf, node, leaves}
 use Rattle.theory.specs.Lists.{InOrder, collect, joinLists, noComponent, listOf}
-use Rattle.theory.specs.Evaluation.{mostIntervals, Evaluation, refused, refuseIf, walk}
+use Rattle.theory.specs.Evaluation.{Evaluation, refused, refuseIf, walk}
+use Rattle.theory.specs.Limits.{mostIntervals, entryCount, recordBytes, listBytes, storeBytes}
 use Rattle.theory.specs.declared.Component.{Component}
 use Rattle.theory.specs.declared.Join.{Join}
 use Rattle.theory.proofs.Every.{every-getD, every-map, index-of-every}
-use Rattle.theory.proofs.Collect.{weighty-collect, collect-fixed}
-use Rattle.theory.proofs.Steps.{weighty-outcomesOf, listOf-node}
+use Rattle.theory.proofs.Collect.{positive-collect, collect-fixed}
+use Rattle.theory.proofs.Steps.{positive-outcomesOf, listOf-node}
 use Rattle.theory.proofs.Structure.{named-length, leafCount, run-leaves}
 use Rattle.theory.proofs.Totals.{speeds-fit, product-fits, weight-fits}
-use Rattle.lists.specs.Records.{recordBytes, listBytes, Under, operandLimit, speedLimit}
+use Rattle.lists.specs.Records.{Under, operandLimit, speedLimit}
 use Rattle.lists.specs.Building.{listIn, holdingFrom}
 use Rattle.lists.proofs.Records.{length-records}
 use Rattle.lists.proofs.Store.{length-from, fresh, frame}
 use Rattle.sheet.specs.declared.Plan.{Plan}
-use Rattle.sheet.specs.Plan.{entryCount, componentAt, componentsOf, entryOf, entriesOf}
+use Rattle.sheet.specs.Plan.{componentAt, componentsOf, entryOf, entriesOf}
 use Rattle.sheet.specs.Rules.{badCode}
 use Rattle.sheet.specs.Kept.{Kept}
-use Rattle.evaluate.specs.Answer.{storeBytes}
 use Rattle.evaluate.specs.declared.Stack.{Stack}
 use Rattle.evaluate.specs.Stack.{emptyStack, listAt, listsBelow, Apart, withList, pushed, pushedStore, left, right, spent}
 use Rattle.evaluate.proofs.Entries.{joinCount, counted, joins-append, named-append, run-append, joins-split, named-split, entries-count, codes-count, component-is, code-is, entry-is}
@@ -167,11 +169,11 @@ module _ {p : Plan} (K : Kept p) {allowance i : ℕ} {store : List ℕ} {st : St
     pub push-count : c .count ≤ 8
     push-count = at-j {P = λ x. x .count ≤ 8} (omega arith) (every-map (λ x r. r .1) (K .counts))
 
-    pub push-weighty : Every Weighty (masses c)
-    push-weighty = at-j {P = λ x. Every Weighty (masses x)} Every.none (K .weighty)
+    pub push-positive : Every Positive (masses c)
+    push-positive = at-j {P = λ x. Every Positive (masses x)} Every.none (K .positive)
 
     is-masses : collect (masses c) ≡ masses c
-    is-masses = collect-fixed (at-j {P = λ x. InOrder (masses x)} InOrder.none (K .ordered)) push-weighty
+    is-masses = collect-fixed (at-j {P = λ x. InOrder (masses x)} InOrder.none (K .ordered)) push-positive
 
     is-leaf : listOf cs (leaf j) ≡ collect (masses c)
     is-leaf = ap (λ (x : Component). collect (masses x)) (component-is p j l)
@@ -273,15 +275,15 @@ module _ {p : Plan} (K : Kept p) {allowance i : ℕ} {store : List ℕ} {st : St
     pub join-under : Every (Under operandLimit) (left store st) × Every (Under operandLimit) (right store st)
     join-under = (rw is-left (small x (omega (arith, leaves-there))), rw is-right (small y (omega (arith, leaves-there))))
 
-    pub join-weighty : Every Weighty (left store st) × Every Weighty (right store st)
-    join-weighty = (rw is-left (weighty-collect (weighty-outcomesOf (K .weighty) x)), rw is-right (weighty-collect (weighty-outcomesOf (K .weighty) y)))
+    pub join-positive : Every Positive (left store st) × Every Positive (right store st)
+    join-positive = (rw is-left (positive-collect (positive-outcomesOf (K .positive) x)), rw is-right (positive-collect (positive-outcomesOf (K .positive) y)))
 
     pub join-weights : weights (left store st) * weights (right store st) < 2 ^ 64
     join-weights = rw (is-left, is-right) (product-fits (every-map (λ c r. r .1) (K .totals)) (K .balanced) x y leaves-there)
 
     -- the join's list, and the pairs
     is-joined : joinLists op (left store st) (right store st) ≡ listOf cs (node op x y)
-    is-joined = ap₂ (joinLists op) is-left is-right ∙ sym (listOf-node (K .weighty) op x y)
+    is-joined = ap₂ (joinLists op) is-left is-right ∙ sym (listOf-node (K .positive) op x y)
 
     is-spent : spent st ≡ st .pairs + length (left store st) * length (right store st)
     is-spent =

@@ -4,6 +4,7 @@ use mathlib.Core.Bool.{cond}
 use mathlib.Core.List.{List}
 use lib.Dec.{ltb, eqb}
 use lib.ListN.{length}
+use Rattle.theory.specs.Limits.{storeBytes}
 use Rattle.theory.specs.Focal.{Focal, total}
 use Rattle.theory.specs.Structure.{Tree}
 use Rattle.theory.specs.Choices.{outcomes, belief, plausibility}
@@ -15,10 +16,6 @@ use Rattle.sheet.specs.Plan.{componentsOf, entriesOf}
 use Rattle.sheet.specs.Reading.{readOf}
 use Rattle.evaluate.specs.declared.Answer.{Answer}
 use Rattle.evaluate.specs.declared.Ran.{Ran}
-
--- the bytes that the store (document 01: the list buffer) needs
-abbrev pub storeBytes : ℕ
-storeBytes = 16384
 
 -- A refusal answers its number, and zero for everything else.
 abbrev pub refusal : ℕ → Answer

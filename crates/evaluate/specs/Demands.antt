@@ -8,19 +8,21 @@ use mathlib.Core.List.{List, [], _∷_, _++_}
 use lib.ListN.{length, take, drop}
 use Rattle.theory.specs.Sums.{Every}
 use Rattle.theory.specs.Focal.{weights, total}
-use Rattle.theory.specs.Structure.{Entry, Tree, trees}
+use Rattle.theory.specs.declared.Entry.{Entry}
+use Rattle.theory.specs.Structure.{Tree, trees}
 use Rattle.theory.specs.Choices.{outcomes, belief, plausibility}
 use Rattle.theory.specs.Lists.{InOrder, driveList}
 use Rattle.theory.specs.Evaluation.{pairCount, completed, refused}
 use Rattle.theory.specs.Bounds.{Bounds}
 use Rattle.theory.specs.declared.Component.{Component}
-use Rattle.field.specs.Bits.{Bytes}
+use Rattle.numbers.specs.Numbers.{Bytes}
 use Rattle.sheet.specs.declared.Plan.{Plan}
 use Rattle.sheet.specs.Tests.{Test}
 use Rattle.sheet.specs.Plan.{componentsOf, entriesOf, cleanedPlan}
 use Rattle.sheet.specs.Reading.{sheetTests, readOf}
 use Rattle.sheet.specs.Writing.{planTests, writtenOf, bytesAfter}
-use Rattle.evaluate.specs.Answer.{storeBytes, refusal, runOf, answer}
+use Rattle.theory.specs.Limits.{storeBytes}
+use Rattle.evaluate.specs.Answer.{refusal, runOf, answer}
 use Rattle.evaluate.specs.Store.{filled, cleared, storeAfter}
 
 abbrev pub Unbroken : Test → Type 0

@@ -7,12 +7,10 @@ use lib.ListN.{length, getD, set, replicate}
 use Rattle.theory.specs.Focal.{Focal, masses}
 use Rattle.theory.specs.Joins.{pairs}
 use Rattle.theory.specs.Lists.{collect, joinLists}
-use Rattle.theory.specs.Evaluation.{mostIntervals}
+use Rattle.theory.specs.Limits.{mostIntervals, mostComponents, recordBytes}
 use Rattle.theory.specs.declared.Component.{Component}
 use Rattle.theory.specs.declared.Join.{Join}
-use Rattle.lists.specs.Records.{recordBytes}
 use Rattle.lists.specs.Building.{fill, listIn, holdingFrom}
-use Rattle.sheet.specs.Plan.{mostComponents}
 use Rattle.evaluate.specs.declared.Stack.{Stack}
 use Rattle.evaluate.specs.declared.Step.{Step}
 

@@ -7,7 +7,8 @@ use lib.ListN.{length, drop, replicate}
 use Rattle.theory.specs.Focal.{Focal}
 use Rattle.lists.specs.Building.{settled}
 use Rattle.sheet.specs.Reading.{readOf}
-use Rattle.evaluate.specs.Answer.{storeBytes, planList, number}
+use Rattle.theory.specs.Limits.{storeBytes}
+use Rattle.evaluate.specs.Answer.{planList, number}
 
 -- 0: the drive's list at the front, and zero up to the end of the working region; later bytes untouched
 abbrev pub filled : List Focal → List ℕ → List ℕ

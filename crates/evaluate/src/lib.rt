@@ -3,13 +3,13 @@ ghost use mathlib.Core.Path.{_≡_};
 ghost use Prim.Native.Nat.{_+_, _*_, _^_, _≤_, _<_};
 ghost use lib.ListN.{length};
 ghost use Rattle.theory.specs.Sums.{Every};
-ghost use Rattle.theory.specs.Focal.{masses, weights, total, Weighty};
-ghost use Rattle.theory.specs.Structure.{join};
-ghost use Rattle.theory.specs.Evaluation.{mostIntervals};
-ghost use Rattle.lists.specs.Records.{listBytes, Under, operandLimit, speedLimit};
+ghost use Rattle.theory.specs.Focal.{masses, weights, total, Positive};
+ghost use Rattle.theory.specs.declared.Entry.the-variants.{Join as join};
+ghost use Rattle.theory.specs.Limits.{mostIntervals, listBytes, storeBytes};
+ghost use Rattle.lists.specs.Records.{Under, operandLimit, speedLimit};
 ghost use Rattle.sheet.specs.Plan.{componentsOf, entryOf};
 ghost use Rattle.sheet.specs.Kept.{Kept};
-ghost use Rattle.evaluate.specs.Answer.{storeBytes, refusal, planList, ran, planAnswer, answer};
+ghost use Rattle.evaluate.specs.Answer.{refusal, planList, ran, planAnswer, answer};
 ghost use Rattle.evaluate.specs.Store.{storeBy, storeAfter};
 ghost use Rattle.evaluate.specs.Stack.{emptyStack, withList, pushed, pushedStore, left, right, Apart, joinStep, joinStore};
 use lists::Joined;
@@ -97,7 +97,7 @@ fn with_list(stack: Stack, d: usize, n: usize, pairs: u64) -> Stack
 // A component's entry: its list goes into the store behind the lists already there.
 fn push(c: Component, stack: Stack, region: &mut [u8]) -> Stack
     requires { ⌜ (stack .depth < 6) × (stack .free + listBytes ≤ length (now region)) × (length (now region) ≡ storeBytes) ⌝ }
-    requires { ⌜ (c .count ≤ 8) × Every (Under speedLimit) (masses c) × Every Weighty (masses c) × (weights (masses c) < 2 ^ 64) ⌝ }
+    requires { ⌜ (c .count ≤ 8) × Every (Under speedLimit) (masses c) × Every Positive (masses c) × (weights (masses c) < 2 ^ 64) ⌝ }
     ensures { λ r. ⌜ r ≡ pushed c stack ⌝ }
     ensures { λ _. ⌜ now (region .exit) ≡ pushedStore c (now (region .entry)) stack ⌝ }
 {
@@ -113,7 +113,7 @@ fn apply(op: Join, stack: Stack, region: &mut [u8], allowance: u32) -> Step
     requires { ⌜ (2 ≤ stack .depth) × (stack .depth ≤ 6) × (stack .free + listBytes ≤ length (now region)) × (length (now region) ≡ storeBytes) × (stack .pairs ≤ allowance) ⌝ }
     requires { ⌜ Apart stack (stack .depth) ⌝ }
     requires { ⌜ Every (Under operandLimit) (left (now region) stack) × Every (Under operandLimit) (right (now region) stack) ⌝ }
-    requires { ⌜ Every Weighty (left (now region) stack) × Every Weighty (right (now region) stack) ⌝ }
+    requires { ⌜ Every Positive (left (now region) stack) × Every Positive (right (now region) stack) ⌝ }
     requires { ⌜ weights (left (now region) stack) * weights (right (now region) stack) < 2 ^ 64 ⌝ }
     ensures { λ r. ⌜ r ≡ joinStep op allowance (now (region .entry)) stack ⌝ }
     ensures { λ _. ⌜ now (region .exit) ≡ joinStore op allowance (now (region .entry)) stack ⌝ }

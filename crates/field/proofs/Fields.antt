@@ -7,7 +7,8 @@ use native.Mathlib.Decide.{decLt, ℕ-discrete}
 use native.Mathlib.Omega.{arith}
 use lib.ListN.{length, drop}
 use lib.Seq.{getD-drop, drop-set-lt}
-use Rattle.field.specs.Bits.{Bytes, bit, fieldAt, setBit, putAt}
+use Rattle.numbers.specs.Numbers.{Bytes}
+use Rattle.field.specs.Bits.{bit, fieldAt, setBit, putAt}
 use Rattle.field.specs.Fields.{Field, widthOf, Fitting, Holds, putAll}
 use Rattle.field.proofs.Field.{bit-lt, field-lt}
 use Rattle.field.proofs.Put.{length-putAt, putAt-other, putAt-same, putAt-bytes, field-ext, bits-ext}

@@ -9,7 +9,8 @@ use native.Mathlib.Omega.{arith}
 use lib.ListN.{length, getD, length-set}
 use lib.Seq.{getD-set-same, getD-set-other, ext-getD}
 use lib.Pow.{high, low, shr-shr, pow-pos, field, mod-mod-pow, pow-add}
-use Rattle.field.specs.Bits.{Bytes, withBit, bit, fieldAt, setBit, putAt}
+use Rattle.numbers.specs.Numbers.{Bytes}
+use Rattle.field.specs.Bits.{withBit, bit, fieldAt, setBit, putAt}
 use Rattle.field.proofs.Field.{field-byte}
 
 put-eq : (x p b : ℕ) → withBit x p b ≡ (x / p / 2 * 2 + b) * p + x % p

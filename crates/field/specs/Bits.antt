@@ -1,11 +1,7 @@
 -- "The sheet": fields are bit-packed, most significant first. Bits of a list of bytes, and the field of w bits at bit a. Assumes nothing.
-use Prim.Native.Nat.{ℕ, zero, suc, _+_, _-_, _*_, _/_, _%_, _^_, _<_}
+use Prim.Native.Nat.{ℕ, zero, suc, _+_, _-_, _*_, _/_, _%_, _^_}
 use mathlib.Core.List.{List}
 use lib.ListN.{getD, set}
-
--- a list of bytes
-abbrev pub Bytes : List ℕ → Type 0
-Bytes s = (i : ℕ) → getD s i 0 < 256
 
 -- bit j of the bytes s: bit 0 is the most significant of the first byte
 unfoldable pub bit : List ℕ → ℕ → ℕ

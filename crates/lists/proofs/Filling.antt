@@ -12,25 +12,25 @@ use lib.Seq.{drop-drop, drop-append-add}
 use borrow.Author.Tests.{le-leb, lt-leb, leb-true, leb-false}
 use Rattle.theory.specs.Sums.{Every}
 use Rattle.theory.specs.Focal.{Focal, weights}
-use Rattle.theory.specs.Lists.{order, InOrder, insert}
+use Rattle.theory.specs.Lists.{order, InOrder, inserted}
 use Rattle.theory.proofs.Sums.{sum-append}
 use Rattle.theory.proofs.Collect.{weigh-insert, every-insert, order-insert}
 use Rattle.theory.proofs.Lists.{length-insert, weights-weigh}
-use Rattle.theory.specs.Evaluation.{mostIntervals}
+use Rattle.theory.specs.Limits.{mostIntervals, listBytes}
 use Rattle.lists.specs.declared.Insertion.{Insertion}
-use Rattle.lists.specs.Records.{encode, records, at, holding, Under, listBytes, speedLimit}
+use Rattle.lists.specs.Records.{encode, records, at, holding, Under, speedLimit}
 use Rattle.lists.specs.Building.{insertionOf, insertOrStay, Filled, fill}
-use Rattle.lists.proofs.Bytes.{Bytes}
+use Rattle.numbers.specs.Numbers.{Bytes}
 use Rattle.lists.proofs.Records.{length-encode, length-records, holds, records-encode, records-under}
 use Rattle.lists.proofs.Inserting.{stay-fits, stay-full}
 
 -- ---- one interval more
 
-pub insert-weights : (f : Focal) (l : List Focal) → weights (insert f l) ≡ f .weight + weights l
+pub insert-weights : (f : Focal) (l : List Focal) → weights (inserted f l) ≡ f .weight + weights l
 insert-weights f l =
-    weights-weigh (insert f l) ∙ weigh-insert (λ a b. 1) f l ∙ rw (mul-one, ← weights-weigh l)
+    weights-weigh (inserted f l) ∙ weigh-insert (λ a b. 1) f l ∙ rw (mul-one, ← weights-weigh l)
 
-pub insert-under : (n : ℕ) (f : Focal) {l : List Focal} → Under n f → Every (Under n) l → Every (Under n) (insert f l)
+pub insert-under : (n : ℕ) (f : Focal) {l : List Focal} → Under n f → Every (Under n) l → Every (Under n) (inserted f l)
 insert-under n f h u = every-insert (Under n) (λ g k p q. q) f h u
 
 -- ---- a buffer that holds a list
@@ -114,33 +114,33 @@ module _ {out₀ out : List ℕ} {m : ℕ} {p : Focal} {rest : List Focal} {g : 
   head-now = every-head (f .next)
 
   module _ {e : List ℕ} {r : Insertion} (answer : r ≡ insertionOf p (records m out)) (bytes : e ≡ holding out (insertOrStay p (records m out))) where
-    count′ : r .count ≡ length (insert p (f .acc))
-    count′ = ap (λ (x : Insertion). x .count) answer ∙ ap (λ (l : List Focal). length (insert p l)) (view f)
+    count′ : r .count ≡ length (inserted p (f .acc))
+    count′ = ap (λ (x : Insertion). x .count) answer ∙ ap (λ (l : List Focal). length (inserted p l)) (view f)
 
     bytes′ : e ≡ holding (holding out₀ (f .acc)) (insertOrStay p (f .acc))
     bytes′ = bytes ∙ (λ k. holding (f .bytes k) (insertOrStay p (view f k)))
 
     pub filling-step : r .count ≤ mostIntervals → Filling out₀ e (r .count) rest g
     filling-step h =
-        let fit : length (insert p (f .acc)) ≤ mostIntervals = omega (arith, count′) in
+        let fit : length (inserted p (f .acc)) ≤ mostIntervals = omega (arith, count′) in
         record {
-          acc = insert p (f .acc);
-          bytes = bytes′ ∙ ap (holding (holding out₀ (f .acc))) (stay-fits p (f .acc) fit) ∙ holding-over out₀ (f .acc) (insert p (f .acc)) (length-insert p (f .acc) .0);
+          acc = inserted p (f .acc);
+          bytes = bytes′ ∙ ap (holding (holding out₀ (f .acc))) (stay-fits p (f .acc) fit) ∙ holding-over out₀ (f .acc) (inserted p (f .acc)) (length-insert p (f .acc) .0);
           count = count′;
           room = fit;
           order = order-insert p (f .order);
           under = insert-under speedLimit p (every-head (f .next)) (f .under);
           next = every-tail (f .next);
           fits = omega (arith, f .fits, insert-weights p (f .acc));
-          goal = sym (rw (le-leb (length (insert p (f .acc))) mostIntervals fit)) ∙ f .goal;
+          goal = sym (rw (le-leb (length (inserted p (f .acc))) mostIntervals fit)) ∙ f .goal;
           len = f .len;
         }
 
     pub filling-stop : mostIntervals < r .count → Done out₀ e (r .count) g
     filling-stop h =
-        let over : mostIntervals < length (insert p (f .acc)) = omega (arith, count′) in
-        let st : fill (f .acc) (p ∷ rest) ≡ record { list = f .acc; count = length (insert p (f .acc)) } = rw (lt-leb (length (insert p (f .acc))) mostIntervals over) in
-        let ge : record { list = f .acc; count = length (insert p (f .acc)) } ≡ g = sym st ∙ f .goal in
+        let over : mostIntervals < length (inserted p (f .acc)) = omega (arith, count′) in
+        let st : fill (f .acc) (p ∷ rest) ≡ record { list = f .acc; count = length (inserted p (f .acc)) } = rw (lt-leb (length (inserted p (f .acc))) mostIntervals over) in
+        let ge : record { list = f .acc; count = length (inserted p (f .acc)) } ≡ g = sym st ∙ f .goal in
         record {
           count = count′ ∙ ap (λ (x : Filled). x .count) ge;
           bytes =
@@ -158,10 +158,10 @@ fits-or-over n = go (leb n mostIntervals) refl
     go false e = inr (leb-false n mostIntervals e)
 
 by-room : (P : Filled → Type 0) (l : List Focal) (p : Focal) (ps : List Focal)
-    → (length (insert p l) ≤ mostIntervals → P (fill (insert p l) ps)) → (mostIntervals < length (insert p l) → P (record { list = l; count = length (insert p l) }))
+    → (length (inserted p l) ≤ mostIntervals → P (fill (inserted p l) ps)) → (mostIntervals < length (inserted p l) → P (record { list = l; count = length (inserted p l) }))
     → P (fill l (p ∷ ps))
 by-room P l p ps f g =
-    ⊎-elim (λ h. rw (le-leb (length (insert p l)) mostIntervals h) (f h)) (λ h. rw (lt-leb (length (insert p l)) mostIntervals h) (g h)) (fits-or-over (length (insert p l)))
+    ⊎-elim (λ h. rw (le-leb (length (inserted p l)) mostIntervals h) (f h)) (λ h. rw (lt-leb (length (inserted p l)) mostIntervals h) (g h)) (fits-or-over (length (inserted p l)))
 
 -- what a filled list keeps of the list that it began with
 pub record Kept (l ps : List Focal) (f : Filled) : Type 0 where
@@ -177,7 +177,7 @@ kept l [] = record { order = λ a. a; under = λ u v. u; sum = omega arith; long
 kept l (p ∷ ps) =
     by-room (Kept l (p ∷ ps)) l p ps
     (λ h.
-    let k : Kept (insert p l) ps (fill (insert p l) ps) = kept (insert p l) ps in
+    let k : Kept (inserted p l) ps (fill (inserted p l) ps) = kept (inserted p l) ps in
     record {
       order = λ a. k .order (order-insert p a);
       under = λ u v. k .under (insert-under speedLimit p (every-head v) u) (every-tail v);
@@ -192,17 +192,17 @@ pub fill-on : (l xs ys : List Focal) → fill l xs .count ≤ mostIntervals → 
 fill-on l [] ys h = refl
 fill-on l (p ∷ ps) ys h =
     ⊎-elim
-    (λ k. let e : leb (length (insert p l)) mostIntervals ≡ true = le-leb (length (insert p l)) mostIntervals k in rw e (fill-on (insert p l) ps ys (rw e at h)))
-    (λ k. let z : length (insert p l) ≤ mostIntervals = rw (lt-leb (length (insert p l)) mostIntervals k) at h in absurd (omega arith))
-    (fits-or-over (length (insert p l)))
+    (λ k. let e : leb (length (inserted p l)) mostIntervals ≡ true = le-leb (length (inserted p l)) mostIntervals k in rw e (fill-on (inserted p l) ps ys (rw e at h)))
+    (λ k. let z : length (inserted p l) ≤ mostIntervals = rw (lt-leb (length (inserted p l)) mostIntervals k) at h in absurd (omega arith))
+    (fits-or-over (length (inserted p l)))
 
 pub fill-off : (l xs ys : List Focal) → length l ≤ mostIntervals → mostIntervals < fill l xs .count → fill l (xs ++ ys) ≡ fill l xs
 fill-off l [] ys r h = absurd (omega arith)
 fill-off l (p ∷ ps) ys r h =
     ⊎-elim
-    (λ k. let e : leb (length (insert p l)) mostIntervals ≡ true = le-leb (length (insert p l)) mostIntervals k in rw e (fill-off (insert p l) ps ys k (rw e at h)))
-    (λ k. rw (lt-leb (length (insert p l)) mostIntervals k))
-    (fits-or-over (length (insert p l)))
+    (λ k. let e : leb (length (inserted p l)) mostIntervals ≡ true = le-leb (length (inserted p l)) mostIntervals k in rw e (fill-off (inserted p l) ps ys k (rw e at h)))
+    (λ k. rw (lt-leb (length (inserted p l)) mostIntervals k))
+    (fits-or-over (length (inserted p l)))
 
 every-left : {P : Focal → Type 0} (xs ys : List Focal) → Every P (xs ++ ys) → Every P xs
 every-left [] ys u = Every.none
@@ -253,18 +253,18 @@ module _ {out₀ out : List ℕ} {m : ℕ} (xs rest : List Focal) {g : Filled} (
 -- all of ps inserted into l, one after the other
 abbrev pub insertAll : List Focal → List Focal → List Focal
 insertAll l [] = l
-insertAll l (p ∷ ps) = insertAll (insert p l) ps
+insertAll l (p ∷ ps) = insertAll (inserted p l) ps
 
 insertAll-longer : (l ps : List Focal) → length l ≤ length (insertAll l ps)
 insertAll-longer l [] = omega arith
-insertAll-longer l (p ∷ ps) = omega (arith, length-insert p l, insertAll-longer (insert p l) ps)
+insertAll-longer l (p ∷ ps) = omega (arith, length-insert p l, insertAll-longer (inserted p l) ps)
 
 pub fill-all : (l ps : List Focal) → length (insertAll l ps) ≤ mostIntervals → fill l ps ≡ record { list = insertAll l ps; count = length (insertAll l ps) }
 fill-all l [] h = refl
-fill-all l (p ∷ ps) h = rw (le-leb (length (insert p l)) mostIntervals (omega (arith, insertAll-longer (insert p l) ps))) (fill-all (insert p l) ps h)
+fill-all l (p ∷ ps) h = rw (le-leb (length (inserted p l)) mostIntervals (omega (arith, insertAll-longer (inserted p l) ps))) (fill-all (inserted p l) ps h)
 
 pub fill-over : (l ps : List Focal) → length l ≤ mostIntervals → mostIntervals < length (insertAll l ps) → fill l ps .count ≡ 257
 fill-over l [] r h = omega arith
 fill-over l (p ∷ ps) r h =
-    ⊎-elim (λ k. rw (le-leb (length (insert p l)) mostIntervals k) (fill-over (insert p l) ps k h))
-    (λ k. rw (lt-leb (length (insert p l)) mostIntervals k) (omega (arith, length-insert p l))) (fits-or-over (length (insert p l)))
+    ⊎-elim (λ k. rw (le-leb (length (inserted p l)) mostIntervals k) (fill-over (inserted p l) ps k h))
+    (λ k. rw (lt-leb (length (inserted p l)) mostIntervals k) (omega (arith, length-insert p l))) (fits-or-over (length (inserted p l)))

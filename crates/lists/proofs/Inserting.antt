@@ -10,20 +10,20 @@ use lib.ListN.{length, take, drop, length-append, length-drop}
 use lib.Seq.{length-take-le, take-at, drop-at, take-append-le, take-take}
 use borrow.Author.Tests.{le-leb, lt-leb}
 use Rattle.theory.specs.Focal.{Focal, weights}
-use Rattle.theory.specs.Lists.{order, insert, merged}
-use Rattle.theory.specs.Evaluation.{mostIntervals}
+use Rattle.theory.specs.Lists.{order, inserted, merged}
+use Rattle.theory.specs.Limits.{mostIntervals}
 use Rattle.lists.specs.declared.Insertion.{Insertion}
 use Rattle.lists.specs.Records.{bytesOf, encode, recordAt, records, at, holding}
 use Rattle.lists.specs.Building.{insertionOf, insertOrStay}
-use Rattle.lists.proofs.Bytes.{Bytes}
+use Rattle.numbers.specs.Numbers.{Bytes}
 use Rattle.lists.proofs.Records.{length-encode, length-records, records-at, encode-append, holds, take-encode, drop-encode}
 use Rattle.lists.proofs.Place.{placeOf, insert-met, insert-new, place-count}
 
-pub stay-fits : (f : Focal) (l : List Focal) → length (insert f l) ≤ mostIntervals → insertOrStay f l ≡ insert f l
-stay-fits f l h = rw (le-leb (length (insert f l)) mostIntervals h)
+pub stay-fits : (f : Focal) (l : List Focal) → length (inserted f l) ≤ mostIntervals → insertOrStay f l ≡ inserted f l
+stay-fits f l h = rw (le-leb (length (inserted f l)) mostIntervals h)
 
-pub stay-full : (f : Focal) (l : List Focal) → mostIntervals < length (insert f l) → insertOrStay f l ≡ l
-stay-full f l h = rw (lt-leb (length (insert f l)) mostIntervals h)
+pub stay-full : (f : Focal) (l : List Focal) → mostIntervals < length (inserted f l) → insertOrStay f l ≡ l
+stay-full f l h = rw (lt-leb (length (inserted f l)) mostIntervals h)
 
 module _ (n : ℕ) (s : List ℕ) (b : Bytes s) (f : 12 * n ≤ length s) (p : ℕ) (pn : p ≤ n) where
   cut-front : take (12 * p) s ≡ encode (take p (records n s))
@@ -50,7 +50,7 @@ pub record Inserted (n : ℕ) (s e : List ℕ) (f : Focal) (r : Insertion) : Typ
   pub bytes : e ≡ holding s (insertOrStay f (records n s))
 
 module _ (n : ℕ) (s : List ℕ) (b : Bytes s) (f : Focal) (p : ℕ) (pe : p ≡ placeOf f (records n s)) where
-  count-is : (m : ℕ) → length (insert f (records n s)) ≡ m → _≡_ {A = Insertion} (record { count = m; place = p }) (insertionOf f (records n s))
+  count-is : (m : ℕ) → length (inserted f (records n s)) ≡ m → _≡_ {A = Insertion} (record { count = m; place = p }) (insertionOf f (records n s))
   count-is m e = λ i. record { count = sym e i; place = pe i }
 
   pub insert-at : 12 * n ≤ length s → n ≤ mostIntervals → p < n → isEq (order (recordAt s p) f) ≡ true
@@ -60,9 +60,9 @@ module _ (n : ℕ) (s : List ℕ) (b : Bytes s) (f : Focal) (p : ℕ) (pe : p �
       let hl : length l ≡ n = length-records n s in
       let ea : at l p ≡ recordAt s p = records-at n p s h in
       let new : Focal = merged f (recordAt s p) in
-      let i : insert f l ≡ take p l ++ (new ∷ drop (suc p) l) =
+      let i : inserted f l ≡ take p l ++ (new ∷ drop (suc p) l) =
       insert-met f l (rw (hl, ← pe) h) (rw (← pe, ea) e) ∙ rw (← pe, ea) in
-      let il : length (insert f l) ≡ n =
+      let il : length (inserted f l) ≡ n =
       ap length i ∙ length-append (take p l) (new ∷ drop (suc p) l) ∙ rw (length-take-le p l (rw hl (omega arith)), length-drop, hl) (omega arith) in
       let e12 : 12 * p + 12 ≡ 12 * suc p = omega arith in
       record {
@@ -76,7 +76,7 @@ module _ (n : ℕ) (s : List ℕ) (b : Bytes s) (f : Focal) (p : ℕ) (pe : p �
 
   -- where no record is the same interval
   module _ (new : p < n → isEq (order (recordAt s p) f) ≡ false) where
-    list-is : insert f (records n s) ≡ take p (records n s) ++ (f ∷ drop p (records n s))
+    list-is : inserted f (records n s) ≡ take p (records n s) ++ (f ∷ drop p (records n s))
     list-is =
         rw pe
         (insert-new f (records n s)
@@ -85,7 +85,7 @@ module _ (n : ℕ) (s : List ℕ) (b : Bytes s) (f : Focal) (p : ℕ) (pe : p �
     within : p ≤ n
     within = omega (arith, place-count n s f)
 
-    longer : length (insert f (records n s)) ≡ n + 1
+    longer : length (inserted f (records n s)) ≡ n + 1
     longer =
         ap length list-is ∙ length-append (take p (records n s)) (f ∷ drop p (records n s))
         ∙ rw (length-take-le p (records n s) (rw length-records within), length-drop, length-records) (omega (arith, within))

@@ -8,7 +8,7 @@ use native.Mathlib.Omega.{arith}
 use lib.ListN.{length, drop}
 use lib.Seq.{drop-cons}
 use Rattle.theory.specs.Sums.{Every}
-use Rattle.theory.specs.Focal.{Focal, weights, Weighty}
+use Rattle.theory.specs.Focal.{Focal, weights, Positive}
 use Rattle.theory.specs.declared.Join.{Join}
 use Rattle.theory.specs.declared.Join.the-variants.{Series, Shared, Spare}
 use Rattle.theory.specs.Joins.{joined, joinedFocal, pairs}
@@ -56,12 +56,12 @@ module _ (op : Join) (l : List Focal) where
 
 -- ---- one insertion after the other collects
 
-all-onto : {qs ps : List Focal} → Every Weighty qs → Every Weighty ps → insertAll (collect qs) ps ≡ collect (qs ++ ps)
+all-onto : {qs ps : List Focal} → Every Positive qs → Every Positive ps → insertAll (collect qs) ps ≡ collect (qs ++ ps)
 all-onto {qs} p Every.none = ap collect (sym (append-nil qs))
 all-onto {qs} p (Every.more {x = f} {xs = fs} h r) =
     ap (λ (l : List Focal). insertAll l fs) (sym (collect-snoc p f h))
     ∙ all-onto (every-append p (Every.more h Every.none)) r
     ∙ ap collect (append-assoc qs (f ∷ []) fs)
 
-pub all-collect : {ps : List Focal} → Every Weighty ps → insertAll [] ps ≡ collect ps
+pub all-collect : {ps : List Focal} → Every Positive ps → insertAll [] ps ≡ collect ps
 all-collect p = all-onto Every.none p

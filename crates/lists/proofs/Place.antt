@@ -13,7 +13,7 @@ use lib.Seq.{drop-cons}
 use borrow.Author.Tests.{lt-ltb, le-ltb, eq-eqb, ne-eqb}
 use Rattle.theory.specs.Sums.{Every}
 use Rattle.theory.specs.Focal.{Focal}
-use Rattle.theory.specs.Lists.{order, Before, InOrder, insert, merged}
+use Rattle.theory.specs.Lists.{order, Before, InOrder, inserted, merged}
 use Rattle.theory.proofs.Order.{Placed, placed, before-trans}
 use Rattle.theory.proofs.Every.{index-of-every}
 use Rattle.theory.proofs.Lists.{order-before, insert-skip, insert-here, insert-same}
@@ -133,24 +133,24 @@ module _ (n : ℕ) (s : List ℕ) (f : Focal) where
 
 -- ---- an insertion, from the place
 
-split : (f : Focal) (l : List Focal) → insert f l ≡ take (placeOf f l) l ++ insert f (drop (placeOf f l) l)
-split f l = ap (insert f) (sym (take-append-drop (placeOf f l) l)) ∙ insert-skip f (place-front f l) (drop (placeOf f l) l)
+split : (f : Focal) (l : List Focal) → inserted f l ≡ take (placeOf f l) l ++ inserted f (drop (placeOf f l) l)
+split f l = ap (inserted f) (sym (take-append-drop (placeOf f l) l)) ∙ insert-skip f (place-front f l) (drop (placeOf f l) l)
 
 pub insert-met : (f : Focal) (l : List Focal) → placeOf f l < length l → isEq (order (at l (placeOf f l)) f) ≡ true
-    → insert f l ≡ take (placeOf f l) l ++ (merged f (at l (placeOf f l)) ∷ drop (suc (placeOf f l)) l)
+    → inserted f l ≡ take (placeOf f l) l ++ (merged f (at l (placeOf f l)) ∷ drop (suc (placeOf f l)) l)
 insert-met f l h e =
     let p : ℕ = placeOf f l in
     let s : (at l p .low ≡ f .low) × (at l p .high ≡ f .high) = same-true (at l p) f e in
-    split f l ∙ ap (λ (k : List Focal). take p l ++ k) (ap (insert f) (drop-cons l p noFocal h) ∙ insert-same f (at l p) (sym (s .0)) (sym (s .1)) (drop (suc p) l))
+    split f l ∙ ap (λ (k : List Focal). take p l ++ k) (ap (inserted f) (drop-cons l p noFocal h) ∙ insert-same f (at l p) (sym (s .0)) (sym (s .1)) (drop (suc p) l))
 
 pub insert-new : (f : Focal) (l : List Focal) → (placeOf f l < length l → isEq (order (at l (placeOf f l)) f) ≡ false)
-    → insert f l ≡ take (placeOf f l) l ++ (f ∷ drop (placeOf f l) l)
+    → inserted f l ≡ take (placeOf f l) l ++ (f ∷ drop (placeOf f l) l)
 insert-new f l e =
     let p : ℕ = placeOf f l in
     split f l ∙ ap (λ (k : List Focal). take p l ++ k)
     (⊎-elim
-    (λ q. let d : drop p l ≡ [] = drop-of-length-le l {i = p} (omega arith) in ap (insert f) d ∙ ap (λ (k : List Focal). f ∷ k) (sym d))
+    (λ q. let d : drop p l ≡ [] = drop-of-length-le l {i = p} (omega arith) in ap (inserted f) d ∙ ap (λ (k : List Focal). f ∷ k) (sym d))
     (λ h.
     let d : drop p l ≡ at l p ∷ drop (suc p) l = drop-cons l p noFocal h in
-    ap (insert f) d ∙ insert-here f (at l p) (neither (at l p) f (place-stop f l h) (e h)) (drop (suc p) l) ∙ ap (λ (k : List Focal). f ∷ k) (sym d))
+    ap (inserted f) d ∙ insert-here f (at l p) (neither (at l p) f (place-stop f l h) (e h)) (drop (suc p) l) ∙ ap (λ (k : List Focal). f ∷ k) (sym d))
     (eq-or-lt-of-le (place-within f l)))

@@ -8,8 +8,9 @@ use lib.ListN.{length, take, drop, length-append, length-drop, take-append-drop}
 use lib.Seq.{drop-drop, take-add, length-take-le, take-at, drop-at, take-append-le, take-take}
 use Rattle.theory.specs.Sums.{Every}
 use Rattle.theory.specs.Focal.{Focal, weights}
-use Rattle.lists.specs.Records.{bigEndian, onto, numberAt, keyOf, bytesOf, encode, headRecord, records, at, withWeight, holding, Under}
-use Rattle.lists.proofs.Bytes.{Bytes, bytes-drop, bytes-take, bigEndian-onto, read-back}
+use Rattle.numbers.specs.Numbers.{bigEndian, onto, numberAt, Bytes}
+use Rattle.lists.specs.Records.{keyOf, bytesOf, encode, headRecord, records, at, withWeight, holding, Under}
+use Rattle.numbers.proofs.Numbers.{bytes-drop, bytes-take, bigEndian-onto, read-back}
 
 -- ---- a record in bytes
 

@@ -9,13 +9,14 @@ use lib.ListN.{length, take, drop, length-append, length-drop, take-append-drop,
 use lib.Seq.{drop-drop, drop-at, length-take-le, take-at, take-length, take-all, take-append-le, drop-append-le, drop-append-add}
 use borrow.Author.Tests.{le-leb, lt-leb, le-ltb, lt-ltb}
 use Rattle.theory.specs.Sums.{Every}
-use Rattle.theory.specs.Focal.{Focal, weights, Weighty}
+use Rattle.theory.specs.Focal.{Focal, weights, Positive}
 use Rattle.theory.specs.Lists.{collect}
-use Rattle.theory.specs.Evaluation.{mostIntervals}
+use Rattle.theory.specs.Limits.{mostIntervals, listBytes}
 use Rattle.lists.specs.declared.Joined.the-variants.{Made, Full}
-use Rattle.lists.specs.Records.{numberAt, encode, headRecord, records, holding, Under, listBytes, speedLimit}
+use Rattle.numbers.specs.Numbers.{numberAt, Bytes}
+use Rattle.lists.specs.Records.{encode, headRecord, records, holding, Under, speedLimit}
 use Rattle.lists.specs.Building.{Filled, fill, joinedAs, joinNumber, joinLength, numberOfJoin, lengthOfJoin, listIn, holdingFrom, settled}
-use Rattle.lists.proofs.Bytes.{Bytes, bytes-drop}
+use Rattle.numbers.proofs.Numbers.{bytes-drop}
 use Rattle.lists.proofs.Records.{encode-records, length-encode, length-records, records-encode}
 use Rattle.lists.proofs.Filling.{Kept, Done, kept, length-holding, fits-or-over, fill-all, fill-over}
 use Rattle.lists.proofs.Pairs.{all-collect}
@@ -93,7 +94,7 @@ module _ (s : List ℕ) (free : ℕ) (l : List Focal) where
 
 -- ---- a join's answer
 
-module _ {ps : List Focal} (p : Every Weighty ps) where
+module _ {ps : List Focal} (p : Every Positive ps) where
   pub fill-made : length (collect ps) ≤ mostIntervals → fill [] ps ≡ record { list = collect ps; count = length (collect ps) }
   fill-made h =
       fill-all [] ps (rw (all-collect p) h) ∙ ap (λ (l : List Focal). record { list = l; count = length l }) (all-collect p)

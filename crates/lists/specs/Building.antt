@@ -9,13 +9,13 @@ use Rattle.theory.specs.Focal.{Focal}
 use Rattle.theory.specs.Choices.{belief, plausibility}
 use Rattle.theory.specs.declared.Join.{Join}
 use Rattle.theory.specs.Joins.{pairs}
-use Rattle.theory.specs.Lists.{order, insert}
-use Rattle.theory.specs.Evaluation.{mostIntervals}
+use Rattle.theory.specs.Lists.{order, inserted}
+use Rattle.theory.specs.Limits.{mostIntervals, recordBytes}
 use Rattle.lists.specs.declared.Insertion.{Insertion}
 use Rattle.lists.specs.declared.Joined.{Joined}
 use Rattle.lists.specs.declared.Joined.the-variants.{Made, Full}
 use Rattle.lists.specs.declared.Shares.{Shares}
-use Rattle.lists.specs.Records.{recordBytes, encode, records, holding}
+use Rattle.lists.specs.Records.{encode, records, holding}
 
 -- an interval from low to high with its weight; and its weight aside
 abbrev pub focal : ℕ → ℕ → ℕ → Focal
@@ -37,11 +37,11 @@ place low high (g ∷ gs) = cond (isBefore (order g (interval low high))) (suc (
 
 -- one insertion: the length that the list then would have, and the place
 abbrev pub insertionOf : Focal → List Focal → Insertion
-insertionOf f l = record { count = length (insert f l); place = place (f .low) (f .high) l }
+insertionOf f l = record { count = length (inserted f l); place = place (f .low) (f .high) l }
 
 -- a list has at most 256 intervals: a 257th leaves it as it is
 abbrev pub insertOrStay : Focal → List Focal → List Focal
-insertOrStay f l = cond (leb (length (insert f l)) mostIntervals) (insert f l) l
+insertOrStay f l = cond (leb (length (inserted f l)) mostIntervals) (inserted f l) l
 
 -- All of ps inserted into l one after the other, stopped before a 257th interval: the list as it then is, and its length, or 257 where
 -- it was stopped.
@@ -51,7 +51,7 @@ pub record Filled : Type 0 where
 
 abbrev pub fill : List Focal → List Focal → Filled
 fill l [] = record { list = l; count = length l }
-fill l (p ∷ ps) = cond (leb (length (insert p l)) mostIntervals) (fill (insert p l) ps) (record { list = l; count = length (insert p l) })
+fill l (p ∷ ps) = cond (leb (length (inserted p l)) mostIntervals) (fill (inserted p l) ps) (record { list = l; count = length (inserted p l) })
 
 -- what a join answers whose list is l
 abbrev pub joinedAs : List Focal → Joined

@@ -4,29 +4,8 @@ use Prim.Native.Nat.{ℕ, zero, suc, _+_, _*_, _/_, _%_, _^_, _<_}
 use mathlib.Core.List.{List, [], _∷_, _++_}
 use lib.ListN.{length, take, drop, getD}
 use Rattle.theory.specs.Focal.{Focal}
-use Rattle.theory.specs.Evaluation.{mostIntervals}
-
--- the bytes of a list record
-abbrev pub recordBytes : ℕ
-recordBytes = 12
-
--- the bytes of the longest list
-abbrev pub listBytes : ℕ
-listBytes = recordBytes * mostIntervals
-
--- the last n bytes of v, most significant first
-unfoldable pub bigEndian : ℕ → ℕ → List ℕ
-bigEndian zero v = []
-bigEndian (suc n) v = (v / 256 ^ n) % 256 ∷ bigEndian n v
-
--- the number whose bytes are those of acc and then bs
-unfoldable pub onto : ℕ → List ℕ → ℕ
-onto acc [] = acc
-onto acc (b ∷ bs) = onto (acc * 256 + b) bs
-
--- the number in n bytes from `at` on
-abbrev pub numberAt : List ℕ → ℕ → ℕ → ℕ
-numberAt s at n = onto 0 (take n (drop at s))
+use Rattle.theory.specs.Limits.{recordBytes}
+use Rattle.numbers.specs.Numbers.{bigEndian, numberAt}
 
 -- an interval with another weight
 abbrev pub withWeight : Focal → ℕ → Focal

@@ -7,11 +7,11 @@ ghost use Prim.Native.Nat.{_+_, _*_, _-_, _/_, _%_, _^_, _≤_, _<_};
 ghost use lib.Dec.{isEq};
 ghost use lib.ListN.{length, take, drop, replicate};
 ghost use Rattle.theory.specs.Sums.{Every};
-ghost use Rattle.theory.specs.Focal.{masses, weights, Weighty};
+ghost use Rattle.theory.specs.Focal.{masses, weights, Positive};
 ghost use Rattle.theory.specs.Joins.{joinedFocal, pairs};
 ghost use Rattle.theory.specs.Lists.{order, InOrder, collect};
-ghost use Rattle.theory.specs.Evaluation.{mostIntervals};
-ghost use Rattle.lists.specs.Records.{recordBytes, listBytes, bigEndian, numberAt, bytesOf, recordAt, records, withWeight, holding, Under, speedLimit, operandLimit, keyOf};
+ghost use Rattle.theory.specs.Limits.{mostIntervals, recordBytes, listBytes};
+ghost use Rattle.lists.specs.Records.{bytesOf, recordAt, records, withWeight, holding, Under, speedLimit, operandLimit, keyOf};
 ghost use Rattle.lists.specs.Building.{focal, interval, isBefore, place, insertionOf, insertOrStay, fill, joinedAs, joinNumber, joinLength, numberOfJoin, lengthOfJoin, listIn, pairsIn, holdingFrom, sharesOf, settled};
 use theory::Component;
 use theory::Join;
@@ -51,41 +51,12 @@ pub struct Shares {
     pub plausibility: u64,
 }
 
-// The number in n bytes from `at` on, most significant first.
-pub fn read_number(s: &[u8], at: usize, n: usize) -> u64
-    requires { ⌜ at + n ≤ length (now s) ⌝ }
-    requires { ⌜ n ≤ 8 ⌝ }
-    ensures { λ r. ⌜ r ≡ numberAt (now (s .entry)) at n ⌝ }
-{
-    let mut acc: u64 = 0;
-    let mut i: usize = 0;
-    while i < n {
-        acc = acc * 256 + s[at + i] as u64;
-        i += 1;
-    }
-    acc
-}
-
-// Writes the last n bytes of v from `at` on, most significant first.
-pub fn write_number(s: &mut [u8], at: usize, n: usize, v: u64)
-    requires { ⌜ at + n ≤ length (now s) ⌝ }
-    ensures { λ _. ⌜ now (s .exit) ≡ take at (now (s .entry)) ++ (bigEndian n v ++ drop (at + n) (now (s .entry))) ⌝ }
-{
-    let mut x = v;
-    let mut i = n;
-    while 0 < i {
-        i -= 1;
-        s[at + i] = (x % 256) as u8;
-        x = x / 256;
-    }
-}
-
 // low and high of record i, as one number
 fn key_at(s: &[u8], i: usize) -> u64
     requires { ⌜ recordBytes * i + recordBytes ≤ length (now s) ⌝ }
     ensures { λ r. ⌜ r ≡ keyOf (recordAt (now (s .entry)) i) ⌝ }
 {
-    read_number(s, RECORD * i, 4)
+    numbers::read_number(s, RECORD * i, 4)
 }
 
 // the weight of record i
@@ -93,7 +64,7 @@ fn weight_at(s: &[u8], i: usize) -> u64
     requires { ⌜ recordBytes * i + recordBytes ≤ length (now s) ⌝ }
     ensures { λ r. ⌜ r ≡ recordAt (now (s .entry)) i .weight ⌝ }
 {
-    read_number(s, RECORD * i + 4, 8)
+    numbers::read_number(s, RECORD * i + 4, 8)
 }
 
 // Writes record i.
@@ -102,8 +73,8 @@ fn write_record(s: &mut [u8], i: usize, low: u64, high: u64, weight: u64)
     requires { ⌜ recordBytes * i + recordBytes ≤ length (now s) ⌝ }
     ensures { λ _. ⌜ now (s .exit) ≡ take (recordBytes * i) (now (s .entry)) ++ (bytesOf (focal low high weight) ++ drop (recordBytes * i + recordBytes) (now (s .entry))) ⌝ }
 {
-    write_number(s, RECORD * i + 4, 8, weight);
-    write_number(s, RECORD * i, 4, low * SPEEDS + high);
+    numbers::write_number(s, RECORD * i + 4, 8, weight);
+    numbers::write_number(s, RECORD * i, 4, low * SPEEDS + high);
 }
 
 // Gives record i another weight.
@@ -111,7 +82,7 @@ fn write_weight(s: &mut [u8], i: usize, weight: u64)
     requires { ⌜ recordBytes * i + recordBytes ≤ length (now s) ⌝ }
     ensures { λ _. ⌜ now (s .exit) ≡ take (recordBytes * i) (now (s .entry)) ++ (bytesOf (withWeight (recordAt (now (s .entry)) i) weight) ++ drop (recordBytes * i + recordBytes) (now (s .entry))) ⌝ }
 {
-    write_number(s, RECORD * i + 4, 8, weight);
+    numbers::write_number(s, RECORD * i + 4, 8, weight);
 }
 
 // Whether record i comes before the interval from low to high: the one comparison by which lists are ordered.
@@ -319,7 +290,7 @@ fn join_copied(
     requires { ⌜ (recordBytes * na ≤ length (now a)) × (recordBytes * nb ≤ length (now b)) ⌝ }
     requires { ⌜ (left + recordBytes * na ≤ length (now store)) × (right + recordBytes * nb ≤ length (now store)) × (free + listBytes ≤ length (now store)) ⌝ }
     requires { ⌜ Every (Under operandLimit) (listIn (now store) left na) × Every (Under operandLimit) (listIn (now store) right nb) ⌝ }
-    requires { ⌜ Every Weighty (listIn (now store) left na) × Every Weighty (listIn (now store) right nb) ⌝ }
+    requires { ⌜ Every Positive (listIn (now store) left na) × Every Positive (listIn (now store) right nb) ⌝ }
     requires { ⌜ weights (listIn (now store) left na) * weights (listIn (now store) right nb) < 2 ^ 64 ⌝ }
     ensures { λ r. ⌜ r ≡ joinedAs (collect (pairsIn op (now (store .entry)) left na right nb)) ⌝ }
     ensures { λ r. ⌜ joinNumber r ≡ numberOfJoin (collect (pairsIn op (now (store .entry)) left na right nb)) ⌝ }
@@ -354,7 +325,7 @@ pub fn join_in_store(
     requires { ⌜ (na ≤ mostIntervals) × (nb ≤ mostIntervals) ⌝ }
     requires { ⌜ (left + recordBytes * na ≤ length (now store)) × (right + recordBytes * nb ≤ length (now store)) × (free + listBytes ≤ length (now store)) ⌝ }
     requires { ⌜ Every (Under operandLimit) (listIn (now store) left na) × Every (Under operandLimit) (listIn (now store) right nb) ⌝ }
-    requires { ⌜ Every Weighty (listIn (now store) left na) × Every Weighty (listIn (now store) right nb) ⌝ }
+    requires { ⌜ Every Positive (listIn (now store) left na) × Every Positive (listIn (now store) right nb) ⌝ }
     requires { ⌜ weights (listIn (now store) left na) * weights (listIn (now store) right nb) < 2 ^ 64 ⌝ }
     ensures { λ r. ⌜ r ≡ joinedAs (collect (pairsIn op (now (store .entry)) left na right nb)) ⌝ }
     ensures { λ r. ⌜ joinNumber r ≡ numberOfJoin (collect (pairsIn op (now (store .entry)) left na right nb)) ⌝ }
@@ -383,7 +354,7 @@ fn wide(x: u16) -> u64
 fn put_component(c: Component, out: &mut [u8]) -> usize
     requires { ⌜ (c .count ≤ 8) × (listBytes ≤ length (now out)) ⌝ }
     requires { ⌜ Every (Under speedLimit) (masses c) ⌝ }
-    requires { ⌜ Every Weighty (masses c) ⌝ }
+    requires { ⌜ Every Positive (masses c) ⌝ }
     requires { ⌜ weights (masses c) < 2 ^ 64 ⌝ }
     ensures { λ r. ⌜ r ≡ length (collect (masses c)) ⌝ }
     ensures { λ _. ⌜ now (out .exit) ≡ holding (now (out .entry)) (collect (masses c)) ⌝ }
@@ -407,7 +378,7 @@ fn put_component(c: Component, out: &mut [u8]) -> usize
 pub fn put_in_store(c: Component, store: &mut [u8], free: usize) -> usize
     requires { ⌜ (c .count ≤ 8) × (free + listBytes ≤ length (now store)) ⌝ }
     requires { ⌜ Every (Under speedLimit) (masses c) ⌝ }
-    requires { ⌜ Every Weighty (masses c) ⌝ }
+    requires { ⌜ Every Positive (masses c) ⌝ }
     requires { ⌜ weights (masses c) < 2 ^ 64 ⌝ }
     ensures { λ r. ⌜ r ≡ length (collect (masses c)) ⌝ }
     ensures { λ _. ⌜ now (store .exit) ≡ holdingFrom (now (store .entry)) free (collect (masses c)) ⌝ }

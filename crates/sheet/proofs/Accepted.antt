@@ -11,7 +11,8 @@ use Rattle.theory.specs.Sums.{countFrom, Every, none, more}
 use Rattle.field.specs.Fields.{putAll}
 use Rattle.sheet.specs.declared.Plan.{Plan}
 use Rattle.sheet.specs.Tests.{Test, test, firstBroken, some}
-use Rattle.sheet.specs.Plan.{mostComponents, componentAt}
+use Rattle.theory.specs.Limits.{mostComponents}
+use Rattle.sheet.specs.Plan.{componentAt}
 use Rattle.sheet.specs.Rules.{rule3, badCount, rule4, rules, Sized}
 use Rattle.sheet.specs.Writing.{numberOf, lengthOf, sheetFields, planTests, written, writtenOf, bytesBy, bytesAfter}
 use Rattle.sheet.proofs.Loops.{some-map}

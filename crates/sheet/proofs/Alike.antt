@@ -15,7 +15,8 @@ use Rattle.block.proofs.Rows.{row-used}
 use Rattle.block.specs.Block.{zeroComponent, cleaned}
 use Rattle.sheet.specs.declared.Plan.{Plan}
 use Rattle.sheet.specs.Tests.{firstBroken, some}
-use Rattle.sheet.specs.Plan.{mostComponents, mostEntries, entryCount, componentAt, componentsOf, codesOf, cleanedPlan}
+use Rattle.theory.specs.Limits.{mostComponents, mostEntries, entryCount}
+use Rattle.sheet.specs.Plan.{componentAt, componentsOf, codesOf, cleanedPlan}
 use Rattle.sheet.specs.Rules.{badTotal, rule6, badAlone, after, badInterval, badIntervals, rule7, badSum, rule8, rule9, rule10, rule11, rules, Sized}
 use Rattle.sheet.proofs.Loops.{some-map}
 use Rattle.sheet.proofs.Some.{each, some-alike}

@@ -16,7 +16,8 @@ use Rattle.block.proofs.Rows.{row-used}
 use Rattle.block.specs.Block.{whole, zeroed, componentIn, zeroComponent}
 use Rattle.sheet.specs.declared.Plan.{Plan}
 use Rattle.sheet.specs.declared.Blocks.{Blocks}
-use Rattle.sheet.specs.Plan.{mostComponents, entryCount, componentAt, componentsOf, zeroPlan}
+use Rattle.theory.specs.Limits.{mostComponents, entryCount}
+use Rattle.sheet.specs.Plan.{componentAt, componentsOf, zeroPlan}
 use Rattle.sheet.specs.Tests.{Test, test, firstBroken, some}
 use Rattle.sheet.specs.Rules.{badTotal, rule6, badIntervals, rule7, badSum, rule8, rule9, rule10, rule11, rules, rulesOf}
 use Rattle.sheet.specs.Reading.{componentCount, lengthIn, headTests, layoutBy, startOf, blockAt, entriesAt, planIn, someCut, badLayout, someUnzeroed, badZeros, reading, someBlock, wholeBlocks, blocksIn}

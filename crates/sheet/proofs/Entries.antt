@@ -10,7 +10,9 @@ use native.Mathlib.Omega.{arith}
 use lib.Dec.{eqb}
 use lib.ListN.{getD}
 use Rattle.theory.specs.Sums.{countOf}
-use Rattle.theory.specs.Structure.{Entry, component, join, named, joinsFindTwo}
+use Rattle.theory.specs.declared.Entry.{Entry}
+use Rattle.theory.specs.declared.Entry.the-variants.{Component as component, Join as join}
+use Rattle.theory.specs.Structure.{named, joinsFindTwo}
 use Rattle.sheet.specs.Plan.{entryOf, isJoin}
 use Rattle.sheet.proofs.Loops.{from, from-next, from-end}
 

@@ -9,7 +9,7 @@ use native.Mathlib.Numerals.{add-one}
 use native.Mathlib.Omega.{arith}
 use lib.ListN.{length, set, take, drop, length-drop}
 use lib.Seq.{take-all}
-use Rattle.theory.specs.Structure.{component}
+use Rattle.theory.specs.declared.Entry.the-variants.{Component as component}
 use Rattle.block.specs.Rows.{row}
 use Rattle.theory.specs.declared.Component.{Component}
 use Rattle.block.specs.Block.{whole, zeroed, componentOf, componentIn, blockIn}

@@ -10,7 +10,8 @@ use native.Mathlib.Omega.{arith}
 use lib.Dec.{leb, ltb, eqb, lit<}
 use lib.ListN.{length, length-map}
 use Rattle.theory.specs.Sums.{countFrom, countOf, Every, none, more}
-use Rattle.theory.specs.Focal.{Focal, topSpeed, focalAt, InRange, Weighty}
+use Rattle.theory.specs.Focal.{Focal, focalAt, InRange, Positive}
+use Rattle.theory.specs.Limits.{topSpeed, mostComponents, entryCount}
 use Rattle.theory.specs.Structure.{named, NamedOnce}
 use Rattle.theory.specs.Lists.{Before, InOrder}
 use Rattle.theory.specs.declared.Component.{Component}
@@ -18,7 +19,7 @@ use Rattle.theory.proofs.Order.{before-trans}
 use Rattle.theory.proofs.Sums.{length-count}
 use Rattle.sheet.specs.declared.Plan.{Plan}
 use Rattle.sheet.specs.Tests.{firstBroken, some}
-use Rattle.sheet.specs.Plan.{mostComponents, entryCount, componentsOf, codesOf, entryOf, entriesOf}
+use Rattle.sheet.specs.Plan.{componentsOf, codesOf, entryOf, entriesOf}
 use Rattle.sheet.specs.Rules.{rule3, badCount, rule4, badTotal, rule6, badAlone, after, badInterval, badIntervals, rule7, badSum, rule8, badCode, rule9, badNaming, rule10, rule11, rules}
 use Rattle.sheet.specs.Kept.{Kept}
 use Rattle.sheet.proofs.Some.{neither, some-none, each, every-map, some-below, within, all-kept}
@@ -46,7 +47,7 @@ module _ (c : Component) where
       let b = neither (ltb (f .high) (f .low)) (ltb topSpeed (f .high)) (a .0) in
       record { upright = ltb-false (f .high) (f .low) (b .0); below = ltb-false topSpeed (f .high) (b .1) }
 
-  weight-above : (j : ℕ) → badInterval c j ≡ false → Weighty (focalAt c j)
+  weight-above : (j : ℕ) → badInterval c j ≡ false → Positive (focalAt c j)
   weight-above j e =
       let f = focalAt c j in
       let n = eqb-false (f .weight) 0 (neither (ltb (f .high) (f .low) || ltb topSpeed (f .high)) (eqb (f .weight) 0) (alone j e) .1) in
@@ -128,7 +129,7 @@ kept p e₃ e₄ e = go (all-kept (rules p) (numbered p) e)
           counts = each badCount (componentsOf p) (λ c h. within 1 8 (c .count) h) e₄;
           totals = each badTotal (componentsOf p) (λ c h. within 1 1000 (c .total) h) e₆;
           inRange = each badIntervals (componentsOf p) (λ c h. every-map (focalAt c) (each (badInterval c) (countFrom 0 (c .count)) (in-range c) h)) e₇;
-          weighty = each badIntervals (componentsOf p) (λ c h. every-map (focalAt c) (each (badInterval c) (countFrom 0 (c .count)) (weight-above c) h)) e₇;
+          positive = each badIntervals (componentsOf p) (λ c h. every-map (focalAt c) (each (badInterval c) (countFrom 0 (c .count)) (weight-above c) h)) e₇;
           ordered = each badIntervals (componentsOf p) (λ c h. in-order c 0 (c .count) h) e₇;
           balanced = each badSum (componentsOf p) (λ c h. eqb-true _ _ (not-false _ h)) e₈;
           codes = each (badCode (p .count)) (codesOf p) (λ code h. h) e₉;

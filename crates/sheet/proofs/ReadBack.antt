@@ -18,7 +18,8 @@ use Rattle.block.specs.Block.{sizeOf, countIn, whole, zeroed, componentIn, zero
 use Rattle.block.proofs.Round.{width-fieldsOf, read-written}
 use Rattle.sheet.specs.declared.Plan.{Plan}
 use Rattle.sheet.specs.Tests.{firstBroken}
-use Rattle.sheet.specs.Plan.{mostComponents, mostEntries, entryCount, componentAt, componentsOf, codesOf, cleanedPlan}
+use Rattle.theory.specs.Limits.{mostComponents, mostEntries, entryCount}
+use Rattle.sheet.specs.Plan.{componentAt, componentsOf, codesOf, cleanedPlan}
 use Rattle.sheet.specs.Rules.{rule3, rules, Sized}
 use Rattle.sheet.specs.Reading.{editionIn, componentCount, lengthIn, startOf, blockAt, planIn, someCut, badLayout, badZeros, readOf, wholeBlocks}
 use Rattle.sheet.specs.Writing.{endOf, lengthOf, blockFields, structureFields, sheetFields}

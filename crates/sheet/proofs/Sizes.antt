@@ -12,7 +12,8 @@ use Rattle.field.proofs.Fields.{width-append, putAll-append}
 use Rattle.block.specs.Block.{sizeOf, fieldsOf}
 use Rattle.block.proofs.Round.{width-fieldsOf}
 use Rattle.sheet.specs.declared.Plan.{Plan}
-use Rattle.sheet.specs.Plan.{entryCount, componentAt, componentsOf, codesIn, codesOf}
+use Rattle.theory.specs.Limits.{entryCount}
+use Rattle.sheet.specs.Plan.{componentAt, componentsOf, codesIn, codesOf}
 use Rattle.sheet.specs.Rules.{Sized}
 use Rattle.sheet.specs.Writing.{endOf, lengthOf, headFields, blockFields, structureFields, sheetFields}
 use Rattle.sheet.proofs.Loops.{from, from-zero, from-next, from-end}

@@ -6,7 +6,8 @@ use native.Mathlib.Decide.{decLt}
 use native.Mathlib.Omega.{arith}
 use lib.ListN.{length, getD, take, drop, length-drop, length-append, List·getD-append}
 use lib.Seq.{getD-drop, getD-take, length-take-le, getD-append-add}
-use Rattle.field.specs.Bits.{Bytes, bit}
+use Rattle.numbers.specs.Numbers.{Bytes}
+use Rattle.field.specs.Bits.{bit}
 use Rattle.field.specs.Fields.{Field, bits, widthOf, Holds, putAll}
 use Rattle.field.proofs.Fields.{width-append, length-putAll, putAll-bytes, putAll-holds, putAll-other, putAll-rest, holds-fitting, holds-bits}
 use Rattle.field.proofs.Put.{field-ext, bits-ext}

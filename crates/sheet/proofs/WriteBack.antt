@@ -19,7 +19,8 @@ use Rattle.block.specs.Block.{countIn, whole, zeroed, componentIn, componentOf,
 use Rattle.block.proofs.Laws.{whole-is}
 use Rattle.block.proofs.Round.{width-fieldsOf, written-read}
 use Rattle.sheet.specs.Tests.{firstBroken}
-use Rattle.sheet.specs.Plan.{mostComponents, mostEntries, entryCount, componentAt, componentsOf, codesOf}
+use Rattle.theory.specs.Limits.{mostComponents, mostEntries, entryCount}
+use Rattle.sheet.specs.Plan.{componentAt, componentsOf, codesOf}
 use Rattle.sheet.specs.Rules.{rule3, badCount, rule4, rules}
 use Rattle.sheet.specs.Reading.{editionIn, componentCount, lengthIn, startOf, blockAt, structurePlace, planIn, someCut, badLayout, someUnzeroed, badZeros, sheetTests, reading, readOf}
 use Rattle.sheet.specs.Writing.{endOf, lengthOf, blockFields, structureFields, sheetFields}

@@ -4,11 +4,12 @@ use mathlib.Core.Path.{_≡_}
 use mathlib.Core.Bool.{true, false}
 use lib.ListN.{length}
 use Rattle.theory.specs.Sums.{Every}
-use Rattle.theory.specs.Focal.{mostHeld, mostTotal, masses, AllInRange, AllWeighty, Balanced}
+use Rattle.theory.specs.Focal.{masses, AllInRange, AllPositive, Balanced}
+use Rattle.theory.specs.Limits.{mostHeld, mostTotal, mostComponents}
 use Rattle.theory.specs.Structure.{joinsFindTwo, NamedOnce}
 use Rattle.theory.specs.Lists.{InOrder}
 use Rattle.sheet.specs.declared.Plan.{Plan}
-use Rattle.sheet.specs.Plan.{mostComponents, componentsOf, codesOf, entriesOf}
+use Rattle.sheet.specs.Plan.{componentsOf, codesOf, entriesOf}
 use Rattle.sheet.specs.Rules.{badCode}
 
 pub record Kept (p : Plan) : Type 0 where
@@ -17,7 +18,7 @@ pub record Kept (p : Plan) : Type 0 where
   pub counts : Every (λ c. (1 ≤ c .count) × (c .count ≤ mostHeld)) (componentsOf p)
   pub totals : Every (λ c. (1 ≤ c .total) × (c .total ≤ mostTotal)) (componentsOf p)
   pub inRange : AllInRange (componentsOf p)
-  pub weighty : AllWeighty (componentsOf p)
+  pub positive : AllPositive (componentsOf p)
   pub ordered : Every (λ c. InOrder (masses c)) (componentsOf p)
   pub balanced : Balanced (componentsOf p)
   pub codes : Every (λ code. badCode (p .count) code ≡ false) (codesOf p)

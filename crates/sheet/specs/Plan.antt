@@ -1,30 +1,20 @@
 -- A plan holds the same facts as a sheet, as values: the components and the structure's entries, which are the sheet's codes.
 -- Assumes nothing.
-use Prim.Native.Nat.{ℕ, _-_, _*_}
+use Prim.Native.Nat.{ℕ}
 use mathlib.Core.Bool.{Bool, true, false, cond}
 use mathlib.Core.List.{List, map}
 use lib.Dec.{eqb}
 use lib.ListN.{getD, replicate}
+use Rattle.theory.specs.Limits.{mostComponents, mostEntries, entryCount}
 use Rattle.theory.specs.Sums.{countFrom}
-use Rattle.theory.specs.Structure.{Entry, component, join}
+use Rattle.theory.specs.declared.Entry.{Entry}
+use Rattle.theory.specs.declared.Entry.the-variants.{Component as component, Join as join}
 use Rattle.theory.specs.Lists.{noComponent}
 use Rattle.theory.specs.declared.Component.{Component}
 use Rattle.theory.specs.declared.Join.the-variants.{Series, Shared, Spare}
 use Rattle.block.specs.Rows.{row}
 use Rattle.block.specs.Block.{zeroComponent, cleaned}
 use Rattle.sheet.specs.declared.Plan.{Plan}
-
--- the most components of a drive (n)
-abbrev pub mostComponents : ℕ
-mostComponents = 6
-
--- the places that a plan has for entries
-abbrev pub mostEntries : ℕ
-mostEntries = 11
-
--- a structure of n components has 2n − 1 entries
-abbrev pub entryCount : ℕ → ℕ
-entryCount n = 2 * n - 1
 
 -- component i of a plan
 abbrev pub componentAt : Plan → ℕ → Component

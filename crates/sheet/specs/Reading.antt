@@ -13,7 +13,8 @@ use Rattle.sheet.specs.declared.Blocks.{Blocks}
 use Rattle.sheet.specs.declared.Plan.{Plan}
 use Rattle.sheet.specs.declared.Reading.{Reading}
 use Rattle.sheet.specs.Tests.{Test, test, firstBroken, some}
-use Rattle.sheet.specs.Plan.{mostComponents, mostEntries, entryCount, zeroPlan}
+use Rattle.theory.specs.Limits.{mostComponents, mostEntries, entryCount}
+use Rattle.sheet.specs.Plan.{zeroPlan}
 use Rattle.sheet.specs.Rules.{rule3, badTotal, badIntervals, badSum, rules}
 
 -- the edition in a sheet's head

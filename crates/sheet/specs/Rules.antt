@@ -4,12 +4,14 @@ use mathlib.Core.Bool.{Bool, cond, not, _&&_, _||_}
 use mathlib.Core.List.{List, [], _∷_}
 use lib.Dec.{ltb, leb, eqb}
 use Rattle.theory.specs.Sums.{countFrom, countOf}
-use Rattle.theory.specs.Focal.{Focal, topSpeed, mostHeld, mostTotal, focalAt, masses, weights}
-use Rattle.theory.specs.Structure.{Entry, named, joinsFindTwo}
+use Rattle.theory.specs.Focal.{Focal, focalAt, masses, weights}
+use Rattle.theory.specs.Limits.{topSpeed, mostHeld, mostTotal, mostComponents}
+use Rattle.theory.specs.declared.Entry.{Entry}
+use Rattle.theory.specs.Structure.{named, joinsFindTwo}
 use Rattle.theory.specs.declared.Component.{Component}
 use Rattle.sheet.specs.declared.Plan.{Plan}
 use Rattle.sheet.specs.Tests.{Test, test, outside, some}
-use Rattle.sheet.specs.Plan.{mostComponents, componentAt, componentsOf, codesIn, codesOf, structureIn, entriesOf}
+use Rattle.sheet.specs.Plan.{componentAt, componentsOf, codesIn, codesOf, structureIn, entriesOf}
 
 -- 3: the component count is not 1 to 6
 abbrev pub rule3 : ℕ → Bool

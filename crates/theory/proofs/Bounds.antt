@@ -4,7 +4,7 @@ use mathlib.Core.Path.{sym, ap₂}
 use mathlib.Core.List.{List}
 use native.Mathlib.Nat.{le-refl}
 use Rattle.theory.specs.Focal.{total, AllInRange}
-use Rattle.theory.specs.Structure.{Entry}
+use Rattle.theory.specs.declared.Entry.{Entry}
 use Rattle.theory.specs.Choices.{outcomes, belief, plausibility}
 use Rattle.theory.specs.Division.{Division}
 use Rattle.theory.specs.Bounds.{ShareAtLeast, ShareAtMost, Bounds}

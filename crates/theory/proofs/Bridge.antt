@@ -10,15 +10,16 @@ use lib.ListN.{getD, set, length, length-set, length-map, length-append, List·g
 use lib.Seq.{getD-set-same, getD-set-other, set-comm, set-at, getD-at, append-snoc}
 use borrow.Author.Tests.{eqb-true, eqb-false, eq-eqb, ne-eqb, ltb-true, ltb-false}
 use Rattle.theory.specs.Sums.{sumBy, productBy, countFrom, countOf, Every}
-use Rattle.theory.specs.Focal.{Focal, masses, Weighty, AllWeighty}
+use Rattle.theory.specs.Focal.{Focal, masses, Positive, AllPositive}
 use Rattle.theory.specs.Joins.{joined}
-use Rattle.theory.specs.Structure.{Entry, Tree, leaf, node, trees, leaves}
+use Rattle.theory.specs.declared.Entry.{Entry}
+use Rattle.theory.specs.Structure.{Tree, leaf, node, trees, leaves}
 use Rattle.theory.specs.Choices.{choices, lows, highs, outcome, outcomes}
 use Rattle.theory.specs.Lists.{driveList, noComponent, outcomesOf, listOf}
 use Rattle.theory.specs.declared.Component.{Component}
 use Rattle.theory.proofs.Sums.{sum-ext, sum-scale, sum-map, sum-append, sum-swap, sum-oneOfEach}
 use Rattle.theory.proofs.Collect.{weigh, same-collect}
-use Rattle.theory.proofs.Steps.{weigh-pairs, weighty-outcomesOf, speedOf, Φ-tree}
+use Rattle.theory.proofs.Steps.{weigh-pairs, positive-outcomesOf, speedOf, Φ-tree}
 use Rattle.theory.proofs.Every.{every-image, every-oneOfEach}
 
 -- a sub-structure that names every component below n once, and no other
@@ -215,14 +216,14 @@ weigh-outcomes cs es t e names k =
     inside j false q p n = absurd (omega (arith, rw q at p))
 
 -- the outcomes have weights above 0
-product-positive : {ch : List Focal} → Every Weighty ch → 0 < productBy (λ f. f .weight) ch
+product-positive : {ch : List Focal} → Every Positive ch → 0 < productBy (λ f. f .weight) ch
 product-positive Every.none = omega arith
 product-positive (Every.more p r) = mul-pos p (product-positive r)
 
-pub weighty-outcomes : (es : List Entry) {cs : List Component} → AllWeighty cs → Every Weighty (outcomes es cs)
-weighty-outcomes es p = every-image (outcome es) (λ ch. product-positive) (every-oneOfEach (every-image masses (λ c h. h) p))
+pub positive-outcomes : (es : List Entry) {cs : List Component} → AllPositive cs → Every Positive (outcomes es cs)
+positive-outcomes es p = every-image (outcome es) (λ ch. product-positive) (every-oneOfEach (every-image masses (λ c h. h) p))
 
 -- The drive's list is the list of the tree that the structure leaves.
-pub drive-is-tree : {cs : List Component} → AllWeighty cs → (es : List Entry) (t : Tree) → trees es ≡ t ∷ [] → NamesEach (length cs) t
+pub drive-is-tree : {cs : List Component} → AllPositive cs → (es : List Entry) (t : Tree) → trees es ≡ t ∷ [] → NamesEach (length cs) t
     → driveList es cs ≡ listOf cs t
-drive-is-tree {cs} p es t e names = same-collect (weighty-outcomes es p) (weighty-outcomesOf p t) (weigh-outcomes cs es t e names)
+drive-is-tree {cs} p es t e names = same-collect (positive-outcomes es p) (positive-outcomesOf p t) (weigh-outcomes cs es t e names)

@@ -8,9 +8,9 @@ use native.Mathlib.Omega.{arith}
 use lib.Dec.{leb, eqb}
 use borrow.Author.Tests.{eq-eqb}
 use Rattle.theory.specs.Sums.{sumBy, Every}
-use Rattle.theory.specs.Focal.{Focal, Weighty}
+use Rattle.theory.specs.Focal.{Focal, Positive}
 use Rattle.theory.specs.Choices.{belief, plausibility}
-use Rattle.theory.specs.Lists.{order, Before, InOrder, merged, insertAt, insert, collect}
+use Rattle.theory.specs.Lists.{order, Before, InOrder, merged, insertedAt, inserted, collect}
 use Rattle.theory.proofs.Sums.{sum-ext, cond-mul}
 use Rattle.theory.proofs.Order.{Placed, placed, before-trans, before-apart}
 use Rattle.theory.proofs.Every.{every-map}
@@ -19,12 +19,12 @@ use Rattle.theory.proofs.Every.{every-map}
 abbrev pub weigh : (ℕ → ℕ → ℕ) → List Focal → ℕ
 weigh k = sumBy (λ f. f .weight * k (f .low) (f .high))
 
-pub weigh-insert : (k : ℕ → ℕ → ℕ) (f : Focal) (gs : List Focal) → weigh k (insert f gs) ≡ f .weight * k (f .low) (f .high) + weigh k gs
+pub weigh-insert : (k : ℕ → ℕ → ℕ) (f : Focal) (gs : List Focal) → weigh k (inserted f gs) ≡ f .weight * k (f .low) (f .high) + weigh k gs
 weigh-insert k f [] = refl
 weigh-insert k f (g ∷ gs) = go (order f g) (placed f g) (weigh-insert k f gs)
   where
-    go : (o : Ordering) → Placed f g o → weigh k (insert f gs) ≡ f .weight * k (f .low) (f .high) + weigh k gs
-        → weigh k (insertAt o f g gs (insert f gs)) ≡ f .weight * k (f .low) (f .high) + weigh k (g ∷ gs)
+    go : (o : Ordering) → Placed f g o → weigh k (inserted f gs) ≡ f .weight * k (f .low) (f .high) + weigh k gs
+        → weigh k (insertedAt o f g gs (inserted f gs)) ≡ f .weight * k (f .low) (f .high) + weigh k (g ∷ gs)
     go Ordering·lt p r = refl
     go Ordering·eq (Placed.same p q) r =
         rw (p, q) (omega (arith, add-mul (f .weight) (g .weight) (k (g .low) (g .high))))
@@ -36,11 +36,11 @@ weigh-collect k [] = refl
 weigh-collect k (f ∷ fs) = weigh-insert k f (collect fs) ∙ ap (f .weight * k (f .low) (f .high) +_) (weigh-collect k fs)
 
 pub every-insert : (P : Focal → Type 0) → ((f g : Focal) → P f → P g → P (merged f g))
-    → (f : Focal) → P f → {gs : List Focal} → Every P gs → Every P (insert f gs)
+    → (f : Focal) → P f → {gs : List Focal} → Every P gs → Every P (inserted f gs)
 every-insert P m f h Every.none = Every.more h Every.none
 every-insert P m f h (Every.more {x = g} {xs = gs} p r) = go (order f g) (every-insert P m f h r)
   where
-    go : (o : Ordering) → Every P (insert f gs) → Every P (insertAt o f g gs (insert f gs))
+    go : (o : Ordering) → Every P (inserted f gs) → Every P (insertedAt o f g gs (inserted f gs))
     go Ordering·lt s = Every.more h (Every.more p r)
     go Ordering·eq s = Every.more (m f g h p) r
     go Ordering·gt s = Every.more p s
@@ -48,11 +48,11 @@ every-insert P m f h (Every.more {x = g} {xs = gs} p r) = go (order f g) (every-
 pub before-all : (f g : Focal) → Before f g → {gs : List Focal} → Every (Before g) gs → Every (Before f) (g ∷ gs)
 before-all f g p b = Every.more p (every-map (λ h q. before-trans f g h p q) b)
 
-pub order-insert : (f : Focal) {gs : List Focal} → InOrder gs → InOrder (insert f gs)
+pub order-insert : (f : Focal) {gs : List Focal} → InOrder gs → InOrder (inserted f gs)
 order-insert f InOrder.none = InOrder.more Every.none InOrder.none
 order-insert f (InOrder.more {f = g} {fs = gs} b r) = go (order f g) (placed f g) (order-insert f r)
   where
-    go : (o : Ordering) → Placed f g o → InOrder (insert f gs) → InOrder (insertAt o f g gs (insert f gs))
+    go : (o : Ordering) → Placed f g o → InOrder (inserted f gs) → InOrder (insertedAt o f g gs (inserted f gs))
     go Ordering·lt (Placed.before p) s = InOrder.more (before-all f g p b) (InOrder.more b r)
     go Ordering·eq p s = InOrder.more b r
     go Ordering·gt (Placed.after p) s = InOrder.more (every-insert (Before g) (λ h j q t. t) f p b) s
@@ -61,9 +61,9 @@ pub order-collect : (fs : List Focal) → InOrder (collect fs)
 order-collect [] = InOrder.none
 order-collect (f ∷ fs) = order-insert f (order-collect fs)
 
-pub weighty-collect : {fs : List Focal} → Every Weighty fs → Every Weighty (collect fs)
-weighty-collect Every.none = Every.none
-weighty-collect (Every.more {x = f} p r) = every-insert Weighty (λ g h q t. omega arith) f p (weighty-collect r)
+pub positive-collect : {fs : List Focal} → Every Positive fs → Every Positive (collect fs)
+positive-collect Every.none = Every.none
+positive-collect (Every.more {x = f} p r) = every-insert Positive (λ g h q t. omega arith) f p (positive-collect r)
 
 -- The weight that a list has at one interval.
 abbrev pub weightAt : ℕ → ℕ → List Focal → ℕ
@@ -93,7 +93,7 @@ at-none : (f : Focal) {gs : List Focal} → Every (Before f) gs → weightAt (f 
 at-none f Every.none = refl
 at-none f (Every.more {x = g} {xs = gs} p r) = rw (before-apart f g p) (omega (arith, at-none f r))
 
-pub canonical : {fs gs : List Focal} → InOrder fs → Every Weighty fs → InOrder gs → Every Weighty gs
+pub canonical : {fs gs : List Focal} → InOrder fs → Every Positive fs → InOrder gs → Every Positive gs
     → ((a b : ℕ) → weightAt a b fs ≡ weightAt a b gs) → fs ≡ gs
 canonical InOrder.none Every.none InOrder.none Every.none h = refl
 canonical InOrder.none Every.none (InOrder.more {f = g} {fs = gs} b s) (Every.more p q) h =
@@ -114,11 +114,11 @@ canonical (InOrder.more {f = f} {fs = fs} b s) (Every.more p q) (InOrder.more {f
         ap₂ _∷_ fg (r (λ x y. omega (arith, h x y, ap (λ (j : Focal). cond (eqb x (j .low) && eqb y (j .high)) (j .weight) 0) fg)))
 
 -- Two lists with the same weighted sums are collected to the same list.
-pub same-collect : {fs gs : List Focal} → Every Weighty fs → Every Weighty gs → ((k : ℕ → ℕ → ℕ) → weigh k fs ≡ weigh k gs) → collect fs ≡ collect gs
+pub same-collect : {fs gs : List Focal} → Every Positive fs → Every Positive gs → ((k : ℕ → ℕ → ℕ) → weigh k fs ≡ weigh k gs) → collect fs ≡ collect gs
 same-collect {fs} {gs} p q h =
-    canonical (order-collect fs) (weighty-collect p) (order-collect gs) (weighty-collect q)
+    canonical (order-collect fs) (positive-collect p) (order-collect gs) (positive-collect q)
     (λ a b. weightAt-collect a b fs ∙ (weightAt-weigh a b fs ∙ (h (is a b) ∙ (sym (weightAt-weigh a b gs) ∙ sym (weightAt-collect a b gs)))))
 
 -- A list in order is its own collection.
-pub collect-fixed : {fs : List Focal} → InOrder fs → Every Weighty fs → collect fs ≡ fs
-collect-fixed {fs} o p = canonical (order-collect fs) (weighty-collect p) o p (λ a b. weightAt-collect a b fs)
+pub collect-fixed : {fs : List Focal} → InOrder fs → Every Positive fs → collect fs ≡ fs
+collect-fixed {fs} o p = canonical (order-collect fs) (positive-collect p) o p (λ a b. weightAt-collect a b fs)

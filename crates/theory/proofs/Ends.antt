@@ -8,8 +8,9 @@ use native.Mathlib.Omega.{arith}
 use lib.Dec.{eqb}
 use borrow.Author.Tests.{eqb-true}
 use Rattle.theory.specs.Sums.{sumBy, Every}
-use Rattle.theory.specs.Focal.{topSpeed, Focal, masses, total, InRange, AllInRange}
-use Rattle.theory.specs.Structure.{Entry}
+use Rattle.theory.specs.Focal.{Focal, masses, total, InRange, AllInRange}
+use Rattle.theory.specs.Limits.{topSpeed}
+use Rattle.theory.specs.declared.Entry.{Entry}
 use Rattle.theory.specs.Choices.{outcomes, belief, plausibility}
 use Rattle.theory.specs.Division.{speeds, Parts, Splits, Divides, putOn, shareAbove, shareTotal}
 use Rattle.theory.specs.declared.Component.{Component}

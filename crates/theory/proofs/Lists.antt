@@ -7,9 +7,9 @@ use native.Mathlib.Nat.{mul-one}
 use native.Mathlib.Omega.{arith}
 use lib.ListN.{length}
 use Rattle.theory.specs.Sums.{Every}
-use Rattle.theory.specs.Focal.{Focal, weights, Weighty}
+use Rattle.theory.specs.Focal.{Focal, weights, Positive}
 use Rattle.theory.specs.Choices.{belief, plausibility}
-use Rattle.theory.specs.Lists.{order, Before, merged, insertAt, insert, collect}
+use Rattle.theory.specs.Lists.{order, Before, merged, insertedAt, inserted, collect}
 use Rattle.theory.proofs.Sums.{sum-ext, sum-append}
 use Rattle.theory.proofs.Order.{Placed, placed, before-trans}
 use Rattle.theory.proofs.Collect.{weigh, weigh-collect, same-collect, belief-weigh, plausibility-weigh}
@@ -44,30 +44,30 @@ order-same f g p q = go (order f g) (placed f g)
     go Ordering·gt (Placed.after b) = absurd (never g f (sym p) (sym q) b)
 
 -- where a new interval goes
-pub insert-skip : (f : Focal) {fs : List Focal} → Every (λ g. Before g f) fs → (gs : List Focal) → insert f (fs ++ gs) ≡ fs ++ insert f gs
+pub insert-skip : (f : Focal) {fs : List Focal} → Every (λ g. Before g f) fs → (gs : List Focal) → inserted f (fs ++ gs) ≡ fs ++ inserted f gs
 insert-skip f Every.none gs = refl
 insert-skip f (Every.more {x = g} {xs = fs} p r) gs = rw (order-after f g p) (ap (g ∷_) (insert-skip f r gs))
 
-pub insert-here : (f g : Focal) → Before f g → (gs : List Focal) → insert f (g ∷ gs) ≡ f ∷ g ∷ gs
+pub insert-here : (f g : Focal) → Before f g → (gs : List Focal) → inserted f (g ∷ gs) ≡ f ∷ g ∷ gs
 insert-here f g b gs = rw (order-before f g b) refl
 
 pub insert-same : (f g : Focal) → f .low ≡ g .low → f .high ≡ g .high → (gs : List Focal)
-    → insert f (g ∷ gs) ≡ merged f g ∷ gs
+    → inserted f (g ∷ gs) ≡ merged f g ∷ gs
 insert-same f g p q gs = rw (order-same f g p q) refl
 
 -- one more interval at the end of what is collected
-pub collect-snoc : {fs : List Focal} → Every Weighty fs → (f : Focal) → Weighty f → collect (fs ++ (f ∷ [])) ≡ insert f (collect fs)
+pub collect-snoc : {fs : List Focal} → Every Positive fs → (f : Focal) → Positive f → collect (fs ++ (f ∷ [])) ≡ inserted f (collect fs)
 collect-snoc {fs} p f h =
     same-collect (every-append p (Every.more h Every.none)) (Every.more h p)
     (λ k. sum-append (λ g. g .weight * k (g .low) (g .high)) fs (f ∷ []) ∙ omega arith)
 
 -- a list grows by at most one, and never shrinks
-pub length-insert : (f : Focal) (gs : List Focal) → (length gs ≤ length (insert f gs)) × (length (insert f gs) ≤ suc (length gs))
+pub length-insert : (f : Focal) (gs : List Focal) → (length gs ≤ length (inserted f gs)) × (length (inserted f gs) ≤ suc (length gs))
 length-insert f [] = omega arith
 length-insert f (g ∷ gs) = go (order f g) (length-insert f gs)
   where
-    go : (o : Ordering) → (length gs ≤ length (insert f gs)) × (length (insert f gs) ≤ suc (length gs))
-        → (suc (length gs) ≤ length (insertAt o f g gs (insert f gs))) × (length (insertAt o f g gs (insert f gs)) ≤ suc (suc (length gs)))
+    go : (o : Ordering) → (length gs ≤ length (inserted f gs)) × (length (inserted f gs) ≤ suc (length gs))
+        → (suc (length gs) ≤ length (insertedAt o f g gs (inserted f gs))) × (length (insertedAt o f g gs (inserted f gs)) ≤ suc (suc (length gs)))
     go Ordering·lt h = omega arith
     go Ordering·eq h = omega arith
     go Ordering·gt h = omega arith

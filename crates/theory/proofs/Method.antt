@@ -6,8 +6,9 @@ use mathlib.Core.List.{List, [], _∷_}
 use native.Mathlib.Omega.{arith}
 use lib.ListN.{length}
 use Rattle.theory.specs.Sums.{sumBy}
-use Rattle.theory.specs.Focal.{AllWeighty}
-use Rattle.theory.specs.Structure.{Entry, NamedOnce, joinsFindTwo, Tree, trees}
+use Rattle.theory.specs.Focal.{AllPositive}
+use Rattle.theory.specs.declared.Entry.{Entry}
+use Rattle.theory.specs.Structure.{NamedOnce, joinsFindTwo, Tree, trees}
 use Rattle.theory.specs.Lists.{driveList, listOf}
 use Rattle.theory.specs.Evaluation.{pairCount, completed, evaluate}
 use Rattle.theory.specs.declared.Component.{Component}
@@ -24,7 +25,7 @@ pub record Leaves (cs : List Component) (es : List Entry) (stack : List Tree) (p
   pub counted : pairs ≡ pairCount cs tree
 
 -- Where each component is named exactly once, in 2n − 1 entries, and each join finds two lists.
-pub method : {cs : List Component} → AllWeighty cs → (allowance : ℕ) (es : List Entry)
+pub method : {cs : List Component} → AllPositive cs → (allowance : ℕ) (es : List Entry)
     → length es + 1 ≡ 2 * length cs → NamedOnce (length cs) es → joinsFindTwo es 0 ≡ true
     → (stack : List Tree) (pairs : ℕ) → evaluate cs allowance es ≡ completed stack pairs → Leaves cs es stack pairs
 method {cs} p allowance es l names two stack pairs e =

@@ -6,7 +6,7 @@ use mathlib.Core.List.{List}
 use native.Mathlib.Nat.{le-refl}
 use Rattle.theory.specs.Sums.{Every}
 use Rattle.theory.specs.Focal.{Focal, masses, InRange, AllInRange}
-use Rattle.theory.specs.Structure.{Entry}
+use Rattle.theory.specs.declared.Entry.{Entry}
 use Rattle.theory.specs.Choices.{choices, lows, highs, Within, Spans}
 use Rattle.theory.specs.declared.Component.{Component}
 use Rattle.theory.proofs.Monotone.{Under, Φ-mono}

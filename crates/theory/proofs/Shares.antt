@@ -11,7 +11,8 @@ use lib.ListN.{length}
 use borrow.Author.Tests.{leb-true, le-leb}
 use Rattle.theory.specs.Sums.{sumBy, productBy}
 use Rattle.theory.specs.Focal.{Focal, masses, total}
-use Rattle.theory.specs.Structure.{Entry, Φ}
+use Rattle.theory.specs.declared.Entry.{Entry}
+use Rattle.theory.specs.Structure.{Φ}
 use Rattle.theory.specs.Choices.{choices, outcomes, belief, plausibility}
 use Rattle.theory.specs.Division.{speeds, Parts, SplitsOne, Splits, Divides, draws, putOn, drawWeight, shareAbove, shareTotal}
 use Rattle.theory.specs.declared.Component.{Component}

@@ -5,15 +5,17 @@ use mathlib.Core.List.{List, [], _∷_, map}
 use native.Mathlib.Nat.{mul-assoc, mul-pos}
 use lib.ListN.{getD}
 use Rattle.theory.specs.Sums.{Every}
-use Rattle.theory.specs.Focal.{Focal, masses, Weighty, AllWeighty}
+use Rattle.theory.specs.Focal.{Focal, masses, Positive, AllPositive}
 use Rattle.theory.specs.Joins.{joined, joinedFocal, pairs}
-use Rattle.theory.specs.Structure.{Entry, component, join, step, run, Φ, Tree, leaf, node, trees}
+use Rattle.theory.specs.declared.Entry.{Entry}
+use Rattle.theory.specs.declared.Entry.the-variants.{Component as component, Join as join}
+use Rattle.theory.specs.Structure.{step, run, Φ, Tree, leaf, node, trees}
 use Rattle.theory.specs.Lists.{collect, noComponent, outcomesOf, listOf}
 use Rattle.theory.specs.Division.{speeds}
 use Rattle.theory.specs.declared.Component.{Component}
 use Rattle.theory.specs.declared.Join.{Join}
 use Rattle.theory.proofs.Sums.{sum-ext, sum-scale, sum-map, sum-forEach}
-use Rattle.theory.proofs.Collect.{weigh, weigh-collect, weighty-collect, same-collect}
+use Rattle.theory.proofs.Collect.{weigh, weigh-collect, positive-collect, same-collect}
 use Rattle.theory.proofs.Every.{every-append, every-getD}
 
 -- A weighted sum over the pairs is one over the first list of one over the second.
@@ -25,31 +27,31 @@ weigh-pairs k op fs gs =
     ∙ (sum-ext (λ g. mul-assoc (f .weight) (g .weight) (k (joined op (f .low) (g .low)) (joined op (f .high) (g .high)))) gs
     ∙ sum-scale (f .weight) (λ g. g .weight * k (joined op (f .low) (g .low)) (joined op (f .high) (g .high))) gs)) fs
 
-meets-weighty : (op : Join) (f : Focal) → Weighty f → {gs : List Focal} → Every Weighty gs → Every Weighty (map (joinedFocal op f) gs)
-meets-weighty op f p Every.none = Every.none
-meets-weighty op f p (Every.more q r) = Every.more (mul-pos p q) (meets-weighty op f p r)
+meets-positive : (op : Join) (f : Focal) → Positive f → {gs : List Focal} → Every Positive gs → Every Positive (map (joinedFocal op f) gs)
+meets-positive op f p Every.none = Every.none
+meets-positive op f p (Every.more q r) = Every.more (mul-pos p q) (meets-positive op f p r)
 
-pub weighty-pairs : (op : Join) {fs gs : List Focal} → Every Weighty fs → Every Weighty gs → Every Weighty (pairs op fs gs)
-weighty-pairs op Every.none q = Every.none
-weighty-pairs op (Every.more {x = f} p r) q = every-append (meets-weighty op f p q) (weighty-pairs op r q)
+pub positive-pairs : (op : Join) {fs gs : List Focal} → Every Positive fs → Every Positive gs → Every Positive (pairs op fs gs)
+positive-pairs op Every.none q = Every.none
+positive-pairs op (Every.more {x = f} p r) q = every-append (meets-positive op f p q) (positive-pairs op r q)
 
 -- The lists may be collected before they are joined.
-pub collect-pairs : (op : Join) {fs gs : List Focal} → Every Weighty fs → Every Weighty gs
+pub collect-pairs : (op : Join) {fs gs : List Focal} → Every Positive fs → Every Positive gs
     → collect (pairs op fs gs) ≡ collect (pairs op (collect fs) (collect gs))
 collect-pairs op {fs} {gs} p q =
-    same-collect (weighty-pairs op p q) (weighty-pairs op (weighty-collect p) (weighty-collect q))
+    same-collect (positive-pairs op p q) (positive-pairs op (positive-collect p) (positive-collect q))
     (λ k. weigh-pairs k op fs gs
     ∙ (sum-ext (λ f. ap (f .weight *_) (sym (weigh-collect (λ c d. k (joined op (f .low) c) (joined op (f .high) d)) gs))) fs
     ∙ (sym (weigh-collect (λ a b. weigh (λ c d. k (joined op a c) (joined op b d)) (collect gs)) fs)
     ∙ sym (weigh-pairs k op (collect fs) (collect gs)))))
 
-pub weighty-outcomesOf : {cs : List Component} → AllWeighty cs → (t : Tree) → Every Weighty (outcomesOf cs t)
-weighty-outcomesOf p (leaf i) = every-getD (λ c. Every Weighty (masses c)) noComponent Every.none p i
-weighty-outcomesOf p (node op l r) = weighty-pairs op (weighty-outcomesOf p l) (weighty-outcomesOf p r)
+pub positive-outcomesOf : {cs : List Component} → AllPositive cs → (t : Tree) → Every Positive (outcomesOf cs t)
+positive-outcomesOf p (leaf i) = every-getD (λ c. Every Positive (masses c)) noComponent Every.none p i
+positive-outcomesOf p (node op l r) = positive-pairs op (positive-outcomesOf p l) (positive-outcomesOf p r)
 
-pub listOf-node : {cs : List Component} → AllWeighty cs → (op : Join) (l r : Tree)
+pub listOf-node : {cs : List Component} → AllPositive cs → (op : Join) (l r : Tree)
     → listOf cs (node op l r) ≡ collect (pairs op (listOf cs l) (listOf cs r))
-listOf-node p op l r = collect-pairs op (weighty-outcomesOf p l) (weighty-outcomesOf p r)
+listOf-node p op l r = collect-pairs op (positive-outcomesOf p l) (positive-outcomesOf p r)
 
 -- One run of the entries is the image of another.
 module _ {A B : Type 0} (h : A → B) (la : ℕ → A) (ba : Join → A → A → A) (lb : ℕ → B) (bb : Join → B → B → B)

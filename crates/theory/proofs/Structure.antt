@@ -8,7 +8,9 @@ use lib.Dec.{eqb}
 use lib.ListN.{length, length-append}
 use borrow.Author.Tests.{eq-eqb}
 use Rattle.theory.specs.Sums.{sumBy, countFrom, countOf}
-use Rattle.theory.specs.Structure.{Entry, component, join, run, named, NamedOnce, joinsFindTwo, Tree, leaf, node, trees, leaves}
+use Rattle.theory.specs.declared.Entry.{Entry}
+use Rattle.theory.specs.declared.Entry.the-variants.{Component as component, Join as join}
+use Rattle.theory.specs.Structure.{run, named, NamedOnce, joinsFindTwo, Tree, leaf, node, trees, leaves}
 use Rattle.theory.proofs.Sums.{sum-append, length-count}
 use Rattle.theory.proofs.Bridge.{NamesEach, del, count-del, length-del, count-all}
 

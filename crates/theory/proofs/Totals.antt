@@ -7,9 +7,11 @@ use native.Mathlib.Omega.{arith}
 use lib.Pow.{pow-add}
 use lib.ListN.{getD, length, length-append}
 use Rattle.theory.specs.Sums.{sumBy, productBy, Every}
-use Rattle.theory.specs.Focal.{topSpeed, Focal, masses, weights, total, AllInRange, Balanced}
+use Rattle.theory.specs.Focal.{Focal, masses, weights, total, AllInRange, Balanced}
+use Rattle.theory.specs.Limits.{topSpeed}
 use Rattle.theory.specs.Joins.{joined, joinedFocal, pairs}
-use Rattle.theory.specs.Structure.{Entry, Tree, leaf, node, leaves}
+use Rattle.theory.specs.declared.Entry.{Entry}
+use Rattle.theory.specs.Structure.{Tree, leaf, node, leaves}
 use Rattle.theory.specs.Choices.{choices, outcome, outcomes}
 use Rattle.theory.specs.Lists.{merged, collect, driveList, noComponent, outcomesOf, listOf}
 use Rattle.theory.specs.declared.Component.{Component}

@@ -8,10 +8,13 @@ use native.Mathlib.Omega.{arith}
 use lib.Dec.{ltb}
 use lib.ListN.{length}
 use Rattle.theory.specs.Sums.{sumBy}
-use Rattle.theory.specs.Focal.{Focal, AllWeighty}
-use Rattle.theory.specs.Structure.{Entry, component, join, run, Tree, leaf, node, trees}
-use Rattle.theory.specs.Lists.{joinLists, listOf}
-use Rattle.theory.specs.Evaluation.{mostIntervals, pairCount, Evaluation, completed, refused, refuseIf, walk, evaluate}
+use Rattle.theory.specs.Focal.{Focal, AllPositive}
+use Rattle.theory.specs.declared.Entry.{Entry}
+use Rattle.theory.specs.declared.Entry.the-variants.{Component as component, Join as join}
+use Rattle.theory.specs.Structure.{run, Tree, leaf, node, trees}
+use Rattle.theory.specs.Lists.{listOf}
+use Rattle.theory.specs.Evaluation.{pairCount, Evaluation, completed, refused, refuseIf, walk, walkLists, evaluate}
+use Rattle.theory.specs.Limits.{mostIntervals}
 use Rattle.theory.specs.declared.Component.{Component}
 use Rattle.theory.proofs.Steps.{listOf-node}
 
@@ -23,9 +26,9 @@ image-refuse : {A B : Type 0} (h : A → B) (b : Bool) (r : ℕ) (a : Evaluation
 image-refuse h true r a = refl
 image-refuse h false r a = refl
 
-module _ {cs : List Component} (p : AllWeighty cs) (allowance : ℕ) where
+module _ {cs : List Component} (p : AllPositive cs) (allowance : ℕ) where
   walk-lists : (es : List Entry) (stack : List Tree) (n : ℕ)
-      → walk allowance (λ l. l) (λ i. listOf cs (leaf i)) joinLists es (map (listOf cs) stack) n ≡ image (listOf cs) (walk allowance (listOf cs) leaf node es stack n)
+      → walkLists _*_ allowance (λ i. listOf cs (leaf i)) es (map (listOf cs) stack) n ≡ image (listOf cs) (walk allowance (listOf cs) leaf node es stack n)
   walk-lists [] stack n = refl
   walk-lists (component i ∷ es) stack n = walk-lists es (leaf i ∷ stack) n
   walk-lists (join op ∷ es) [] n = walk-lists es [] n
@@ -33,13 +36,13 @@ module _ {cs : List Component} (p : AllWeighty cs) (allowance : ℕ) where
   walk-lists (join op ∷ es) (y ∷ x ∷ stack) n =
       let m : ℕ = n + length (listOf cs x) * length (listOf cs y) in
       ap (refuseIf (ltb allowance m) 13)
-      (ap (λ (l : List Focal). refuseIf (ltb mostIntervals (length l)) 14 (walk allowance (λ k. k) (λ i. listOf cs (leaf i)) joinLists es (l ∷ map (listOf cs) stack) m)) (sym (listOf-node p op x y))
+      (ap (λ (l : List Focal). refuseIf (ltb mostIntervals (length l)) 14 (walkLists _*_ allowance (λ i. listOf cs (leaf i)) es (l ∷ map (listOf cs) stack) m)) (sym (listOf-node p op x y))
       ∙ (ap (refuseIf (ltb mostIntervals (length (listOf cs (node op x y)))) 14) (walk-lists es (node op x y ∷ stack) m)
       ∙ sym (image-refuse (listOf cs) (ltb mostIntervals (length (listOf cs (node op x y)))) 14 _)))
       ∙ sym (image-refuse (listOf cs) (ltb allowance m) 13 _)
 
   -- the method: lists on the stack, merged at each join
-  pub evaluate-lists : (es : List Entry) → walk allowance (λ l. l) (λ i. listOf cs (leaf i)) joinLists es [] 0 ≡ image (listOf cs) (evaluate cs allowance es)
+  pub evaluate-lists : (es : List Entry) → walkLists _*_ allowance (λ i. listOf cs (leaf i)) es [] 0 ≡ image (listOf cs) (evaluate cs allowance es)
   evaluate-lists es = walk-lists es [] 0
 
 -- an answer that is no refusal

@@ -2,7 +2,7 @@
 use Prim.Native.Nat.{ℕ, _*_, _≤_}
 use mathlib.Core.Path.{_≡_}
 use mathlib.Core.List.{List}
-use Rattle.theory.specs.Structure.{Entry}
+use Rattle.theory.specs.declared.Entry.{Entry}
 use Rattle.theory.specs.Division.{Division, shareAbove, shareTotal}
 use Rattle.theory.specs.declared.Component.{Component}
 

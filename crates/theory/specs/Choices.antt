@@ -7,7 +7,8 @@ use mathlib.Core.List.{List, [], _∷_, map}
 use lib.Dec.{leb}
 use Rattle.theory.specs.Sums.{sumBy, productBy, oneOfEach}
 use Rattle.theory.specs.Focal.{Focal, masses}
-use Rattle.theory.specs.Structure.{Entry, Φ}
+use Rattle.theory.specs.declared.Entry.{Entry}
+use Rattle.theory.specs.Structure.{Φ}
 use Rattle.theory.specs.declared.Component.{Component}
 
 -- every choice of one interval for each component

@@ -5,8 +5,10 @@ use mathlib.Core.Path.{_≡_}
 use mathlib.Core.List.{List, [], _∷_, map}
 use lib.Dec.{leb}
 use Rattle.theory.specs.Sums.{sumBy, productBy, oneOfEach, countFrom}
-use Rattle.theory.specs.Focal.{Focal, topSpeed, masses}
-use Rattle.theory.specs.Structure.{Entry, Φ}
+use Rattle.theory.specs.Focal.{Focal, masses}
+use Rattle.theory.specs.Limits.{topSpeed}
+use Rattle.theory.specs.declared.Entry.{Entry}
+use Rattle.theory.specs.Structure.{Φ}
 use Rattle.theory.specs.declared.Component.{Component}
 
 -- the speeds 0 to 4,095

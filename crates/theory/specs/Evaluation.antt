@@ -4,15 +4,14 @@ use mathlib.Core.Bool.{Bool, true, false}
 use mathlib.Core.List.{List, [], _∷_}
 use lib.Dec.{ltb}
 use lib.ListN.{length}
+use Rattle.theory.specs.Limits.{mostIntervals}
 use Rattle.theory.specs.Focal.{Focal}
-use Rattle.theory.specs.Structure.{Entry, component, join, Tree, leaf, node}
-use Rattle.theory.specs.Lists.{listOf}
+use Rattle.theory.specs.declared.Entry.{Entry}
+use Rattle.theory.specs.declared.Entry.the-variants.{Component as component, Join as join}
+use Rattle.theory.specs.Structure.{Tree, leaf, node}
+use Rattle.theory.specs.Lists.{joinListsBy, listOf}
 use Rattle.theory.specs.declared.Component.{Component}
 use Rattle.theory.specs.declared.Join.{Join}
-
--- the most different intervals that a join's list may have
-abbrev pub mostIntervals : ℕ
-mostIntervals = 256
 
 -- The pairs that the joins of a sub-structure form, each the product of its two lists' lengths after merging.
 abbrev pub pairCount : List Component → Tree → ℕ
@@ -46,3 +45,7 @@ module _ {A : Type 0} (allowance : ℕ) (list : A → List Focal) (leafOf : ℕ 
 -- The evaluation of a structure: each sub-structure has the list that its choices collect to.
 abbrev pub evaluate : List Component → ℕ → List Entry → Evaluation Tree
 evaluate cs allowance es = walk allowance (listOf cs) leaf node es [] 0
+
+-- The method: lists on the stack, merged at each join. How two weights are multiplied is a parameter.
+abbrev pub walkLists : (ℕ → ℕ → ℕ) → ℕ → (ℕ → List Focal) → List Entry → List (List Focal) → ℕ → Evaluation (List Focal)
+walkLists times allowance leafList = walk allowance (λ l. l) leafList (joinListsBy times)

@@ -3,19 +3,9 @@ use Prim.Native.Nat.{ℕ, _≤_, _<_}
 use mathlib.Core.Path.{_≡_}
 use mathlib.Core.List.{List, map}
 use lib.ListN.{getD}
+use Rattle.theory.specs.Limits.{topSpeed}
 use Rattle.theory.specs.Sums.{sumBy, productBy, countFrom, Every}
 use Rattle.theory.specs.declared.Component.{Component}
-
--- The highest speed of a component, in millimetres a second; the lowest is 0.
-abbrev pub topSpeed : ℕ
-topSpeed = 4095
-
--- the most intervals that a component holds, and its highest total T
-abbrev pub mostHeld : ℕ
-mostHeld = 8
-
-abbrev pub mostTotal : ℕ
-mostTotal = 1000
 
 -- A focal element (source 002, definition 2.2): an interval of speeds, both ends inside it, with its weight.
 pub record Focal : Type 0 where
@@ -27,9 +17,13 @@ pub record Focal : Type 0 where
 abbrev pub focalAt : Component → ℕ → Focal
 focalAt c i = record { low = getD (c .lows) i 0; high = getD (c .highs) i 0; weight = getD (c .weights) i 0 }
 
--- The mass assignment of a component: its intervals in use. Each weight is a share of T.
+-- what a sheet lists of a component: its intervals in use
+abbrev pub listed : Component → List Focal
+listed c = map (focalAt c) (countFrom 0 (c .count))
+
+-- The mass assignment of a component (source 002, definition 2.2): each weight is a share of T.
 abbrev pub masses : Component → List Focal
-masses c = map (focalAt c) (countFrom 0 (c .count))
+masses c = listed c
 
 -- the sum of the weights of a list
 abbrev pub weights : List Focal → ℕ
@@ -44,14 +38,14 @@ pub record InRange (f : Focal) : Type 0 where
   pub upright : f .low ≤ f .high
   pub below : f .high ≤ topSpeed
 
-abbrev pub Weighty : Focal → Type 0
-Weighty f = 0 < f .weight
+abbrev pub Positive : Focal → Type 0
+Positive f = 0 < f .weight
 
 abbrev pub AllInRange : List Component → Type 0
 AllInRange = Every (λ c. Every InRange (masses c))
 
-abbrev pub AllWeighty : List Component → Type 0
-AllWeighty = Every (λ c. Every Weighty (masses c))
+abbrev pub AllPositive : List Component → Type 0
+AllPositive = Every (λ c. Every Positive (masses c))
 
 abbrev pub Balanced : List Component → Type 0
 Balanced = Every (λ c. weights (masses c) ≡ c .total)

@@ -12,11 +12,19 @@ joined Series x y = min x y
 joined Shared x y = x + y
 joined Spare x y = max x y
 
--- two intervals joined: lows and highs separately, weights multiplied
-abbrev pub joinedFocal : Join → Focal → Focal → Focal
-joinedFocal op f g =
-    record { low = joined op (f .low) (g .low); high = joined op (f .high) (g .high); weight = f .weight * g .weight }
+-- Two intervals joined: lows and highs separately, weights multiplied. How two weights are multiplied is a parameter.
+module _ (times : ℕ → ℕ → ℕ) where
+  abbrev pub joinedBy : Join → Focal → Focal → Focal
+  joinedBy op f g =
+      record { low = joined op (f .low) (g .low); high = joined op (f .high) (g .high); weight = times (f .weight) (g .weight) }
 
--- every interval of one list with every interval of the other
+  -- every interval of one list with every interval of the other
+  abbrev pub pairsBy : Join → List Focal → List Focal → List Focal
+  pairsBy op fs gs = forEach fs (λ f. map (joinedBy op f) gs)
+
+-- as the definition has it: the product
+abbrev pub joinedFocal : Join → Focal → Focal → Focal
+joinedFocal = joinedBy _*_
+
 abbrev pub pairs : Join → List Focal → List Focal → List Focal
-pairs op fs gs = forEach fs (λ f. map (joinedFocal op f) gs)
+pairs = pairsBy _*_

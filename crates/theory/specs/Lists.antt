@@ -1,13 +1,14 @@
 -- Lists: ascending by low, then by high, no interval twice; the drive's list and that of a sub-structure. Assumes nothing.
-use Prim.Native.Nat.{_+_, _<_, compare, Ordering, Ordering·lt, Ordering·eq, Ordering·gt}
+use Prim.Native.Nat.{ℕ, _+_, _*_, _<_, compare, Ordering, Ordering·lt, Ordering·eq, Ordering·gt}
 use mathlib.Core.Path.{_≡_}
 use mathlib.Core.Logic.{_⊎_}
 use mathlib.Core.List.{List, [], _∷_}
 use lib.ListN.{getD}
 use Rattle.theory.specs.Sums.{Every}
 use Rattle.theory.specs.Focal.{Focal, masses}
-use Rattle.theory.specs.Joins.{pairs}
-use Rattle.theory.specs.Structure.{Entry, Tree, leaf, node}
+use Rattle.theory.specs.Joins.{pairsBy, pairs}
+use Rattle.theory.specs.declared.Entry.{Entry}
+use Rattle.theory.specs.Structure.{Tree, leaf, node}
 use Rattle.theory.specs.Choices.{outcomes}
 use Rattle.theory.specs.declared.Component.{Component}
 use Rattle.theory.specs.declared.Join.{Join}
@@ -35,27 +36,30 @@ abbrev pub merged : Focal → Focal → Focal
 merged f g = record { low = g .low; high = g .high; weight = f .weight + g .weight }
 
 -- A list in order with one interval more: equal intervals become one, weights added. `rest` is f inserted behind g.
-abbrev pub insertAt : Ordering → Focal → Focal → List Focal → List Focal → List Focal
-insertAt Ordering·lt f g gs rest = f ∷ g ∷ gs
-insertAt Ordering·eq f g gs rest = merged f g ∷ gs
-insertAt Ordering·gt f g gs rest = g ∷ rest
+abbrev pub insertedAt : Ordering → Focal → Focal → List Focal → List Focal → List Focal
+insertedAt Ordering·lt f g gs rest = f ∷ g ∷ gs
+insertedAt Ordering·eq f g gs rest = merged f g ∷ gs
+insertedAt Ordering·gt f g gs rest = g ∷ rest
 
-abbrev pub insert : Focal → List Focal → List Focal
-insert f [] = f ∷ []
-insert f (g ∷ gs) = insertAt (order f g) f g gs (insert f gs)
+abbrev pub inserted : Focal → List Focal → List Focal
+inserted f [] = f ∷ []
+inserted f (g ∷ gs) = insertedAt (order f g) f g gs (inserted f gs)
 
 -- any intervals, made a list
 abbrev pub collect : List Focal → List Focal
 collect [] = []
-collect (f ∷ fs) = insert f (collect fs)
+collect (f ∷ fs) = inserted f (collect fs)
 
 -- The drive's list: the collected outcomes of all choices.
 abbrev pub driveList : List Entry → List Component → List Focal
 driveList es cs = collect (outcomes es cs)
 
 -- the list of a join of two lists
+abbrev pub joinListsBy : (ℕ → ℕ → ℕ) → Join → List Focal → List Focal → List Focal
+joinListsBy times op fs gs = collect (pairsBy times op fs gs)
+
 abbrev pub joinLists : Join → List Focal → List Focal → List Focal
-joinLists op fs gs = collect (pairs op fs gs)
+joinLists = joinListsBy _*_
 
 -- past the last component there is none
 abbrev pub noComponent : Component

@@ -8,11 +8,8 @@ use lib.ListN.{getD}
 use Rattle.theory.specs.Sums.{countOf}
 use Rattle.theory.specs.Joins.{joined}
 use Rattle.theory.specs.declared.Join.{Join}
-
--- An entry names a component, or joins the two topmost things of the stack (document 01: the pile).
-pub data Entry : Type 0 where
-  component : ℕ → Entry
-  join : Join → Entry
+use Rattle.theory.specs.declared.Entry.{Entry}
+use Rattle.theory.specs.declared.Entry.the-variants.{Component as component, Join as join}
 
 -- The entries run on a stack of any kind of thing, its top in front. A join that finds fewer than two leaves the stack as it is:
 -- number 11 refuses such a structure before anything runs.

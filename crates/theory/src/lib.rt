@@ -3,11 +3,30 @@ ghost use mathlib.Core.Path.{_≡_};
 ghost use Prim.Native.Nat.{_+_, _^_, _<_};
 ghost use Rattle.theory.specs.Joins.{joined};
 
+// The limits: specs/Limits.antt has them with document 01's words.
+pub const TOP_SPEED: u16 = 4095;
+
+pub const MOST_HELD: usize = 8;
+
+pub const MOST_TOTAL: usize = 1000;
+
+pub const MOST_COMPONENTS: usize = 6;
+
+pub const MOST_ENTRIES: usize = 2 * MOST_COMPONENTS - 1;
+
+pub const MOST_INTERVALS: usize = 256;
+
+pub const RECORD_BYTES: usize = 12;
+
+pub const LIST_BYTES: usize = RECORD_BYTES * MOST_INTERVALS;
+
+pub const STORE_BYTES: usize = 16384;
+
 // A module: up to eight intervals of speed with their weights, the first `count` places in use, and its total T.
 pub struct Component {
-    pub lows: [u16; 8],
-    pub highs: [u16; 8],
-    pub weights: [u16; 8],
+    pub lows: [u16; MOST_HELD],
+    pub highs: [u16; MOST_HELD],
+    pub weights: [u16; MOST_HELD],
     pub count: usize,
     pub total: u16,
 }
@@ -17,6 +36,12 @@ pub enum Join {
     Series,
     Shared,
     Spare,
+}
+
+// An entry of a structure: a component by its number, or a join of the two topmost lists.
+pub enum Entry {
+    Component(usize),
+    Join(Join),
 }
 
 // The speed of two joined parts that run at x and y.

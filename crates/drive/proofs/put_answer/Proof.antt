@@ -5,7 +5,7 @@ use mathlib.Core.List.{List, [], _++_, append-assoc}
 use native.Mathlib.Omega.{arith}
 use lib.ListN.{length, take, drop, length-append}
 use lib.Seq.{take-at, drop-append-add, drop-drop}
-use Rattle.lists.specs.Records.{bigEndian}
+use Rattle.numbers.specs.Numbers.{bigEndian}
 use Rattle.drive.specs.Call.{encodeAnswer}
 use borrow.Author.Needs.{needs}
 use Rattle.drive.proofs.put_answer.Statement.{statement}

@@ -3,7 +3,8 @@ use mathlib.Core.Path.{_≡_, sym, ap, _∙_}
 use mathlib.Core.List.{List, _++_}
 use Prim.Native.Nat.{ℕ}
 use lib.ListN.{drop}
-use Rattle.evaluate.specs.Answer.{storeBytes, planList, ran}
+use Rattle.theory.specs.Limits.{storeBytes}
+use Rattle.evaluate.specs.Answer.{planList, ran}
 use Rattle.evaluate.specs.Store.{filled, storeBy}
 use Rattle.evaluate.specs.declared.Ran.{Ran}
 use Rattle.evaluate.proofs.Answering.{Accepts, refuses, accepts, whole-store, readable, shares-are}

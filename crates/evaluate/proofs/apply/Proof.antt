@@ -8,8 +8,7 @@ use lib.ListN.{length, getD}
 use borrow.Author.Tests.{lt-ltb, le-ltb}
 use Rattle.theory.specs.Focal.{Focal}
 use Rattle.theory.specs.Lists.{joinLists}
-use Rattle.theory.specs.Evaluation.{mostIntervals}
-use Rattle.lists.specs.Records.{recordBytes}
+use Rattle.theory.specs.Limits.{mostIntervals, recordBytes}
 use Rattle.lists.proofs.Store.{made-inv, full-inv}
 use Rattle.evaluate.specs.declared.Stack.{Stack}
 use Rattle.evaluate.specs.Stack.{left, right, spent, withList}

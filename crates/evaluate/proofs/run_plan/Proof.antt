@@ -8,12 +8,12 @@ use lib.ListN.{length, getD, drop}
 use Rattle.lists.proofs.Records.{length-records}
 use Rattle.sheet.specs.Rules.{badCode}
 use borrow.Author.Needs.{needs}
-use Rattle.sheet.specs.Plan.{entryCount}
+use Rattle.theory.specs.Limits.{entryCount, storeBytes}
 use Rattle.sheet.specs.Kept.{Kept}
-use Rattle.evaluate.specs.Answer.{storeBytes, planList}
+use Rattle.evaluate.specs.Answer.{planList}
 use Rattle.evaluate.proofs.Ending.{join-out, join-goes-on, join-stops, moved, finishes, in-region, clears, fills}
 use Rattle.evaluate.proofs.Entries.{code-component, code-join}
-use Rattle.evaluate.proofs.Running.{Running, starting, code-good, push-room, push-count, push-under, push-weighty, push-weights, push-next, join-room, join-under, join-weighty, join-weights}
+use Rattle.evaluate.proofs.Running.{Running, starting, code-good, push-room, push-count, push-under, push-positive, push-weights, push-next, join-room, join-under, join-positive, join-weights}
 use Rattle.evaluate.proofs.run_plan.Statement.{statement}
 use Rattle.evaluate.proofs.run_plan.Tie as tie
 use Rattle.evaluate.proofs.run_plan.Reads as reads
@@ -97,7 +97,7 @@ push-requires c κs =
       (
         push-count (kept l) (running l) (here l) (code l) (e .1) (e .0),
         push-under (kept l) (running l) (here l) (code l) (e .1) (e .0),
-        push-weighty (kept l) (running l) (here l) (code l) (e .1) (e .0),
+        push-positive (kept l) (running l) (here l) (code l) (e .1) (e .0),
         push-weights (kept l) (running l) (here l) (code l) (e .1) (e .0),
       ),
     )
@@ -120,7 +120,7 @@ apply-requires c κs =
         running l .apart,
         (
           join-under (kept l) (running l) (here l) op e,
-          (join-weighty (kept l) (running l) (here l) op e, join-weights (kept l) (running l) (here l) op e),
+          (join-positive (kept l) (running l) (here l) op e, join-weights (kept l) (running l) (here l) op e),
         ),
       ),
     )

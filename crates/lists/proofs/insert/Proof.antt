@@ -1,4 +1,4 @@
--- `lists::insert` meets its contract. Assumes nothing.
+-- `lists::inserted` meets its contract. Assumes nothing.
 use mathlib.Core.Path.{_≡_, sym, ap, _∙_}
 use mathlib.Core.Bool.{false}
 use mathlib.Core.Logic.{⊎-elim}
@@ -11,7 +11,7 @@ use borrow.Author.Needs.{needs}
 use Rattle.theory.specs.Focal.{Focal}
 use Rattle.theory.specs.Lists.{order}
 use Rattle.lists.specs.Records.{bytesOf, recordAt, withWeight, speedLimit}
-use Rattle.lists.proofs.Bytes.{Bytes}
+use Rattle.numbers.specs.Numbers.{Bytes}
 use Rattle.lists.proofs.Place.{place-count}
 use Rattle.lists.proofs.Inserting.{Inserted, insert-at, insert-in, insert-over, weight-le}
 use Rattle.lists.proofs.insert.Statement.{statement}

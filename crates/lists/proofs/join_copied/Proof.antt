@@ -6,10 +6,10 @@ use Prim.Native.Nat.{_≤_, _+_, _*_, _-_}
 use native.Mathlib.Omega.{arith}
 use lib.ListN.{length, take, drop, length-drop}
 use Rattle.theory.specs.Sums.{Every}
-use Rattle.theory.specs.Focal.{Focal, Weighty}
+use Rattle.theory.specs.Focal.{Focal, Positive}
 use Rattle.theory.specs.Joins.{pairs}
 use Rattle.theory.specs.Lists.{collect}
-use Rattle.theory.proofs.Steps.{weighty-pairs}
+use Rattle.theory.proofs.Steps.{positive-pairs}
 use Rattle.lists.specs.declared.Joined.{Joined}
 use Rattle.lists.specs.Records.{records, holding}
 use Rattle.lists.specs.Building.{fill, joinedAs, joinNumber, joinLength, numberOfJoin, lengthOfJoin, listIn, holdingFrom}
@@ -53,8 +53,8 @@ pairs-are : (c : tie.After-join-lists)
     → pairs (start c .args .op) (records (start c .args .na) (first (second c) .copy .last .1 .0)) (records (start c .args .nb) (second c .copy2 .last .1 .0)) ≡ wanted (start c)
 pairs-are c = λ k. pairs (start c .args .op) (left-is (first (second c)) k) (right-is (second c) k)
 
-heavy : (c : tie.After-join-lists) → Every Weighty (wanted (start c))
-heavy c = weighty-pairs (start c .args .op) (start c .pre .1 .1 .1 .0 .0) (start c .pre .1 .1 .1 .0 .1)
+heavy : (c : tie.After-join-lists) → Every Positive (wanted (start c))
+heavy c = positive-pairs (start c .args .op) (start c .pre .1 .1 .1 .0 .0) (start c .pre .1 .1 .1 .0 .1)
 
 count-is : (c : tie.After-join-lists) → c .join-lists .result ≡ fill [] (wanted (start c)) .count
 count-is c = c .join-lists .ensures .0 ∙ ap (λ (l : List Focal). fill [] l .count) (pairs-are c)

@@ -6,7 +6,7 @@ use lib.ListN.{drop}
 use borrow.Author.Needs.{needs}
 use Rattle.lists.specs.Records.{recordAt, speedLimit}
 use Rattle.lists.specs.Building.{interval}
-use Rattle.lists.proofs.Bytes.{bytes-drop}
+use Rattle.numbers.proofs.Numbers.{bytes-drop}
 use Rattle.lists.proofs.Records.{head-under}
 use Rattle.lists.proofs.Place.{before-key}
 use Rattle.lists.proofs.precedes.Statement.{statement}

@@ -7,7 +7,7 @@ use native.Mathlib.Omega.{arith}
 use borrow.Author.Needs.{needs}
 use Rattle.theory.specs.Focal.{Focal, focalAt, masses, weights}
 use Rattle.theory.specs.declared.Component.{Component}
-use Rattle.theory.specs.Lists.{InOrder, insert}
+use Rattle.theory.specs.Lists.{InOrder, inserted}
 use Rattle.theory.proofs.Lists.{length-insert}
 use Rattle.lists.specs.declared.Insertion.{Insertion}
 use Rattle.lists.specs.Records.{records, holding, Under, speedLimit, keyOf}

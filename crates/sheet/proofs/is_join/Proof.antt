@@ -5,7 +5,7 @@ use mathlib.Core.Path.{_≡_, refl}
 use mathlib.Core.Bool.{Bool, true, false, cond}
 use Prim.Native.Nat.{ℕ}
 use lib.Dec.{eqb}
-use Rattle.theory.specs.Structure.{component, join}
+use Rattle.theory.specs.declared.Entry.the-variants.{Component as component, Join as join}
 use Rattle.theory.specs.declared.Join.the-variants.{Spare}
 use Rattle.sheet.specs.Plan.{entryOf, isJoin}
 use Rattle.sheet.proofs.Entries.{left}

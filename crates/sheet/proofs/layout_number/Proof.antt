@@ -8,7 +8,7 @@ use lib.ListN.{length}
 use denote.Ref.{now}
 use Rattle.field.specs.Bits.{fieldAt}
 use Rattle.reader.specs.declared.Triple.{Triple}
-use Rattle.sheet.specs.Plan.{entryCount}
+use Rattle.theory.specs.Limits.{entryCount}
 use Rattle.sheet.proofs.Entries.{left}
 use Rattle.sheet.proofs.layout_number.Statement.{statement}
 use Rattle.sheet.proofs.layout_number.Tie as tie

@@ -9,7 +9,8 @@ use lib.ListN.{length}
 use denote.Ref.{now}
 use Rattle.field.specs.Fields.{bits, putAll}
 use Rattle.field.proofs.Put.{length-putAt}
-use Rattle.sheet.specs.Plan.{entryCount, codesIn}
+use Rattle.theory.specs.Limits.{entryCount}
+use Rattle.sheet.specs.Plan.{codesIn}
 use Rattle.sheet.proofs.Sizes.{codesLeft, codes-start, codes-next, codes-end}
 use Rattle.sheet.proofs.put_entries.Statement.{statement}
 use Rattle.sheet.proofs.put_entries.Tie as tie

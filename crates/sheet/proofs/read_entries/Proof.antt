@@ -12,7 +12,7 @@ use Rattle.field.specs.Bits.{fieldAt}
 use Rattle.field.proofs.Field.{field-lt}
 use Rattle.reader.specs.declared.Triple.{Triple}
 use Rattle.block.specs.Rows.{row}
-use Rattle.sheet.specs.Plan.{mostEntries}
+use Rattle.theory.specs.Limits.{mostEntries}
 use Rattle.sheet.specs.Reading.{entriesAt}
 use Rattle.sheet.proofs.read_entries.Statement.{statement}
 use Rattle.sheet.proofs.read_entries.Tie as tie

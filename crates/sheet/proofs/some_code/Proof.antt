@@ -6,7 +6,7 @@ use Prim.Native.Nat.{_-_}
 use native.Mathlib.Omega.{arith}
 use lib.ListN.{getD}
 use Rattle.theory.specs.Sums.{countFrom}
-use Rattle.sheet.specs.Plan.{entryCount}
+use Rattle.theory.specs.Limits.{entryCount}
 use Rattle.sheet.specs.Rules.{badCode}
 use Rattle.sheet.proofs.Entries.{left}
 use Rattle.sheet.proofs.Loops.{Searched, search-starts, search-hits, search-goes-on, search-ends, some-map}

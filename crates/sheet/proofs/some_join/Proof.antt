@@ -9,8 +9,10 @@ use mathlib.Core.List.{List}
 use Prim.Native.Nat.{_+_, _-_, _≤_}
 use native.Mathlib.Omega.{arith}
 use lib.ListN.{getD}
-use Rattle.theory.specs.Structure.{Entry, joinsFindTwo}
-use Rattle.sheet.specs.Plan.{entryCount, entryOf, structureIn}
+use Rattle.theory.specs.declared.Entry.{Entry}
+use Rattle.theory.specs.Structure.{joinsFindTwo}
+use Rattle.theory.specs.Limits.{entryCount}
+use Rattle.sheet.specs.Plan.{entryOf, structureIn}
 use Rattle.sheet.proofs.Entries.{left, left-next, left-end, find-component, find-few, find-two}
 use Rattle.sheet.proofs.Loops.{from-zero}
 use Rattle.sheet.proofs.some_join.Statement.{statement}

@@ -13,7 +13,8 @@ use lib.Dec.{eqb}
 use lib.ListN.{getD}
 use Rattle.theory.specs.Sums.{countOf}
 use Rattle.theory.specs.Structure.{named}
-use Rattle.sheet.specs.Plan.{entryCount, structureIn}
+use Rattle.theory.specs.Limits.{entryCount}
+use Rattle.sheet.specs.Plan.{structureIn}
 use Rattle.sheet.proofs.Entries.{left, left-next, left-end, count-next}
 use Rattle.sheet.proofs.Loops.{from-zero}
 use Rattle.sheet.proofs.times_named.Statement.{statement}

@@ -1,13 +1,13 @@
--- `lists::write_number` meets its contract. Assumes nothing.
+-- `numbers::write_number` meets its contract. Assumes nothing.
 use mathlib.Core.Path.{_≡_, refl, sym, ap, _∙_}
 use mathlib.Core.List.{List}
 use Prim.Native.Nat.{ℕ, _≤_, _+_, _-_, _/_, _%_, _^_}
 use native.Mathlib.Nat.{div-one}
 use native.Mathlib.Omega.{arith}
 use lib.ListN.{length, set, length-set}
-use Rattle.lists.proofs.Bytes.{spelt, spelt-none, spelt-more, shifted-out}
-use Rattle.lists.proofs.write_number.Statement.{statement}
-use Rattle.lists.proofs.write_number.Tie as tie
+use Rattle.numbers.proofs.Numbers.{spelt, spelt-none, spelt-more, shifted-out}
+use Rattle.numbers.proofs.write_number.Statement.{statement}
+use Rattle.numbers.proofs.write_number.Tie as tie
 
 abbrev Inv-loop : tie.InvT-loop
 Inv-loop s₀ at n v x₀ i₀ s x i =

@@ -1,13 +1,13 @@
--- `lists::read_number` meets its contract. The invariant: what is left to read, read onto `acc`, is the number that is wanted.
+-- `numbers::read_number` meets its contract. The invariant: what is left to read, read onto `acc`, is the number that is wanted.
 -- Assumes nothing.
 use mathlib.Core.Path.{_≡_, sym, _∙_}
 use Prim.Native.Nat.{ℕ, _≤_, _<_, _+_, _-_, _^_}
 use native.Mathlib.Omega.{arith}
 use lib.ListN.{take, drop}
-use Rattle.lists.specs.Records.{onto, numberAt}
-use Rattle.lists.proofs.Bytes.{pow7, grow, onto-next}
-use Rattle.lists.proofs.read_number.Statement.{statement}
-use Rattle.lists.proofs.read_number.Tie as tie
+use Rattle.numbers.specs.Numbers.{onto, numberAt}
+use Rattle.numbers.proofs.Numbers.{pow7, grow, onto-next}
+use Rattle.numbers.proofs.read_number.Statement.{statement}
+use Rattle.numbers.proofs.read_number.Tie as tie
 
 abbrev Inv-loop : tie.InvT-loop
 Inv-loop s at n acc₀ i₀ acc i = (i ≤ n) × ((acc < 256 ^ i) × (onto acc (take (n - i) (drop (at + i) s)) ≡ numberAt s at n))

@@ -1,0 +1,95 @@
+-- Laws of numbers in bytes: one step along a list, and numbers there and back. Assumes nothing.
+use mathlib.Core.Path.{_≡_, refl, sym, ap, _∙_}
+use mathlib.Core.List.{List, [], _∷_, _++_}
+use Prim.Native.Nat.{ℕ, zero, suc, _+_, _*_, _-_, _/_, _%_, _^_, _≤_, _<_}
+use native.Mathlib.Nat.{pow-le-pow-right, pow-suc, div-one, div-div-eq-div-mul, mod-eq-of-lt, mod-one, add-mul, mul-assoc}
+use native.Mathlib.Numerals.{add-one}
+use native.Mathlib.Omega.{arith}
+use lib.Arith.{digits-lt, digits-div, digits-mod, mod-mul}
+use lib.ListN.{length, take, drop, getD, set, take-append-drop}
+use lib.Seq.{drop-cons, take-suc, append-snoc, set-at, length-take-le, getD-drop}
+use Rattle.numbers.specs.Numbers.{Bytes, bigEndian, onto}
+
+-- ---- one step along a list
+
+pub part-cons : (s : List ℕ) (k m : ℕ) → k < length s → take (m + 1) (drop k s) ≡ getD s k 0 ∷ take m (drop (k + 1) s)
+part-cons s k m h = rw (add-one, drop-cons s k 0, add-one k)
+
+-- the store that goes in just before what stands behind a front part
+pub back : (s t : List ℕ) (k b : ℕ) → k < length s → set (take (k + 1) s ++ t) k b ≡ take k s ++ (b ∷ t)
+back s t k b h =
+    let hl : k ≤ length s = omega arith in
+    rw (add-one, take-suc s k 0, append-snoc) (set-at (take k s) (getD s k 0) t b k (length-take-le k s hl))
+
+-- ---- numbers in bytes
+
+pub pow7 : (i : ℕ) → i ≤ 7 → 256 ^ i ≤ 72057594037927936
+pow7 i h = pow-le-pow-right (omega arith) h
+
+pub grow : (acc b i : ℕ) → acc < 256 ^ i → b < 256 → acc * 256 + b < 256 ^ (i + 1)
+grow acc b i h k = rw (add-one, pow-suc) (digits-lt h k)
+
+pub onto-next : (s : List ℕ) (acc k m : ℕ) → k < length s → onto acc (take (m + 1) (drop k s)) ≡ onto (acc * 256 + getD s k 0) (take m (drop (k + 1) s))
+unfolding onto
+onto-next s acc k m h = ap (onto acc) (part-cons s k m h)
+
+pub bigEndian-next : (m v : ℕ) → bigEndian (m + 1) v ≡ (v / 256 ^ m) % 256 ∷ bigEndian m v
+unfolding bigEndian
+bigEndian-next m v = rw add-one
+
+pub shifted-out : (v m : ℕ) → v / 256 ^ m / 256 ≡ v / 256 ^ (m + 1)
+shifted-out v m = rw (add-one, pow-suc) (div-div-eq-div-mul v (256 ^ m) 256)
+
+-- s with the last n - i of n bytes from `at` on bigEndian
+abbrev pub spelt : List ℕ → ℕ → ℕ → ℕ → ℕ → List ℕ
+spelt s at n v i = take (at + i) s ++ (bigEndian (n - i) v ++ drop (at + n) s)
+
+pub spelt-none : (s : List ℕ) (at n v : ℕ) → s ≡ spelt s at n v n
+unfolding bigEndian
+spelt-none s at n v = let e : n - n ≡ 0 = omega arith in rw e (sym (take-append-drop (at + n) s))
+
+pub spelt-more : (s : List ℕ) (at n v i : ℕ) → i < n → at + n ≤ length s
+    → set (spelt s at n v (i + 1)) (at + i) (v / 256 ^ (n - (i + 1)) % 256) ≡ spelt s at n v i
+spelt-more s at n v i h k =
+    let e : at + (i + 1) ≡ at + i + 1 = omega arith in
+    let e2 : n - i ≡ n - (i + 1) + 1 = omega arith in
+    rw (e, e2, bigEndian-next) (back s (bigEndian (n - (i + 1)) v ++ drop (at + n) s) (at + i) (v / 256 ^ (n - (i + 1)) % 256) (omega arith))
+
+-- ---- numbers, there and back
+pub bytes-drop : (k : ℕ) (s : List ℕ) → Bytes s → Bytes (drop k s)
+bytes-drop k s h i = rw getD-drop (h (k + i))
+
+pub bytes-take : (n : ℕ) (s : List ℕ) → Bytes s → Bytes (take n s)
+bytes-take zero s h i = omega arith
+bytes-take (suc n) [] h i = omega arith
+bytes-take (suc n) (x ∷ xs) h zero = h zero
+bytes-take (suc n) (x ∷ xs) h (suc i) = bytes-take n xs (λ j. h (suc j)) i
+
+onto-div : (acc : ℕ) (bs : List ℕ) → Bytes bs → onto acc bs / 256 ^ length bs ≡ acc
+unfolding onto
+onto-div acc [] h = div-one acc
+onto-div acc (b ∷ bs) h =
+    rw pow-suc (sym (div-div-eq-div-mul (onto (acc * 256 + b) bs) (256 ^ length bs) 256))
+    ∙ ap (λ (n : ℕ). n / 256) (onto-div (acc * 256 + b) bs (λ i. h (suc i)))
+    ∙ digits-div acc (h zero)
+
+pub bigEndian-onto : (acc : ℕ) (bs : List ℕ) → Bytes bs → bigEndian (length bs) (onto acc bs) ≡ bs
+unfolding onto bigEndian
+bigEndian-onto acc [] h = refl
+bigEndian-onto acc (b ∷ bs) h =
+    rw (onto-div (acc * 256 + b) bs (λ i. h (suc i)), digits-mod acc (h zero), bigEndian-onto (acc * 256 + b) bs (λ i. h (suc i)))
+
+pow-pos : (n : ℕ) → 0 < 256 ^ n
+pow-pos n = omega (arith, pow-le-pow-right {n = 256} (omega arith) {i = 0} {j = n} (omega arith))
+
+onto-bigEndian : (acc n v : ℕ) → onto acc (bigEndian n v) ≡ acc * 256 ^ n + v % 256 ^ n
+unfolding onto bigEndian
+onto-bigEndian acc zero v = rw (mod-one) (omega arith)
+onto-bigEndian acc (suc n) v =
+    onto-bigEndian (acc * 256 + v / 256 ^ n % 256) n v
+    ∙ let h : v % (256 * 256 ^ n) ≡ (v / 256 ^ n % 256) * 256 ^ n + v % 256 ^ n = mod-mul v (omega arith) (pow-pos n) in
+    let e : 256 ^ suc n ≡ 256 * 256 ^ n = rw pow-suc (omega arith) in
+    rw (e, h, add-mul, mul-assoc) (omega arith)
+
+pub read-back : (n v : ℕ) → v < 256 ^ n → onto 0 (bigEndian n v) ≡ v
+read-back n v h = onto-bigEndian 0 n v ∙ rw (mod-eq-of-lt h) (omega arith)

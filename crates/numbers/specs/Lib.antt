@@ -1,0 +1,2 @@
+-- Numbers in bytes, most significant byte first.
+pub mod Numbers
