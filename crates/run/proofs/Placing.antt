@@ -1,0 +1,82 @@
+-- A list that is put behind the lists of a stack: the others stay as they were, and it stands on top. Assumes nothing.
+use Prim.Native.Nat.{ℕ, zero, suc, _+_, _-_, _*_, _^_, _≤_, _<_}
+use mathlib.Core.Path.{_≡_, refl, ap, ap₂, _∙_}
+use mathlib.Core.List.{List, [], _∷_, _++_}
+use native.Mathlib.Numerals.{add-one}
+use native.Mathlib.Decide.{ℕ-discrete}
+use native.Mathlib.Omega.{arith}
+use lib.ListN.{length, getD, set, take, drop, replicate, length-set}
+use lib.Seq.{getD-set-same, getD-set-other}
+use Rattle.theory.specs.Sums.{Every}
+use Rattle.theory.specs.Focal.{Focal, weights}
+use Rattle.theory.specs.Limits.{mostIntervals, mostComponents, listBytes}
+use Rattle.lists.specs.Records.{Under, speedLimit}
+use Rattle.lists.specs.Building.{listIn, holdingFrom, settled}
+use Rattle.lists.proofs.Store.{length-from, fresh, frame, behind}
+use Rattle.run.specs.declared.Stack.{Stack}
+use Rattle.run.specs.Stack.{listsBelow, Apart, withList}
+use Rattle.run.specs.Run.{filled, cleared}
+
+-- where the lists of a stack stand in a store whose bytes behind the first `size` were those of store₀
+pub record Stored (size : ℕ) (store₀ store : List ℕ) (st : Stack) : Type 0 where
+  pub starts : length (st .starts) ≡ mostComponents
+  pub counts : length (st .counts) ≡ mostComponents
+  pub apart : Apart st (st .depth)
+  pub same-length : length store ≡ length store₀
+  pub later : drop size store ≡ drop size store₀
+
+-- a list at place d, from the free rest's first byte on
+module _ {size : ℕ} {store₀ store : List ℕ} {st : Stack} (S : Stored size store₀ store st) (enough : size ≤ length store₀)
+    (d pairs : ℕ) (l : List Focal) (low : d ≤ st .depth) (place : d < mostComponents) (room : st .free + listBytes ≤ size) (short : length l ≤ mostIntervals) where
+  abbrev next : Stack
+  next = withList st d (st .free) (length l) pairs
+
+  inside : st .free ≤ length store
+  inside = omega (arith, S .same-length)
+
+  start-top : getD (set (st .starts) d (st .free)) d 0 ≡ st .free
+  start-top = getD-set-same (st .starts) d (st .free) 0 (omega (arith, S .starts))
+
+  count-top : getD (set (st .counts) d (length l)) d 0 ≡ length l
+  count-top = getD-set-same (st .counts) d (length l) 0 (omega (arith, S .counts))
+
+  start-below : (k : ℕ) → (k ≡ d → ⊥) → getD (set (st .starts) d (st .free)) k 0 ≡ getD (st .starts) k 0
+  start-below k e = getD-set-other (st .starts) d k (st .free) 0 e
+
+  count-below : (k : ℕ) → (k ≡ d → ⊥) → getD (set (st .counts) d (length l)) k 0 ≡ getD (st .counts) k 0
+  count-below k e = getD-set-other (st .counts) d k (length l) 0 e
+
+  below-same : (e : ℕ) → e ≤ d → listsBelow (holdingFrom store (st .free) l) next e ≡ listsBelow store st e
+  below-same zero h = refl
+  below-same (suc e) h =
+      ap₂ _∷_
+      (ap₂ (listIn (holdingFrom store (st .free) l)) (start-below e (λ q. omega arith)) (count-below e (λ q. omega arith))
+      ∙ frame store (st .free) l (getD (st .starts) e 0) (getD (st .counts) e 0) inside (S .apart e (omega arith) .0))
+      (below-same e (omega arith))
+
+  pub on-top : Every (Under speedLimit) l × (weights l < 2 ^ 64) → listsBelow (holdingFrom store (st .free) l) next (d + 1) ≡ l ∷ listsBelow store st d
+  on-top u =
+      ap (listsBelow (holdingFrom store (st .free) l) next) (add-one d)
+      ∙ ap₂ _∷_ (ap₂ (listIn (holdingFrom store (st .free) l)) start-top count-top ∙ fresh store (st .free) l inside (u .0) (u .1)) (below-same d (omega arith))
+
+  pub stored-next : Stored size store₀ (holdingFrom store (st .free) l) next
+  stored-next = record {
+    starts = length-set (st .starts) d (st .free) ∙ S .starts;
+    counts = length-set (st .counts) d (length l) ∙ S .counts;
+    apart = λ k q. elim (ℕ-discrete k d) [
+      | yes e ↦ rw e (omega (arith, start-top, count-top))
+      | no e ↦ omega (arith, start-below k e, count-below k e, S .apart k (omega arith))
+    ];
+    same-length = length-from store (st .free) l (omega (arith, S .same-length)) ∙ S .same-length;
+    later = behind store (st .free) l size (omega arith) inside ∙ S .later;
+  }
+
+-- what the end of a run makes of the first n bytes
+module _ {size n : ℕ} (q : size ≡ n) (x s after : List ℕ) (d : drop n x ≡ drop n s) where
+  pub clears : after ≡ take 0 x ++ (replicate (size - 0) 0 ++ drop size x) → after ≡ cleared n s
+  clears e =
+      let z : n - 0 ≡ n = omega arith in
+      e ∙ rw (q, z, d)
+
+  pub fills : (l : List Focal) → after ≡ settled size l x → after ≡ filled n l s
+  fills l e = e ∙ rw (q, d)

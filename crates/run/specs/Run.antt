@@ -1,0 +1,50 @@
+-- "Pairs, allowance and store": what the run of a plan answers, and each byte of the store afterwards. Assumes nothing.
+use Prim.Native.Nat.{ℕ, _*_}
+use mathlib.Core.List.{List, [], _∷_, _++_}
+use lib.ListN.{length, getD, drop, replicate}
+use Rattle.theory.specs.Focal.{Focal, masses}
+use Rattle.theory.specs.Lists.{collect, noComponent}
+use Rattle.theory.specs.Evaluation.{Evaluation, completed, refused, walkLists}
+use Rattle.theory.specs.Limits.{storeBytes}
+use Rattle.lists.specs.Building.{settled}
+use Rattle.sheet.specs.declared.Plan.{Plan}
+use Rattle.sheet.specs.Plan.{componentsOf, entriesOf}
+use Rattle.run.specs.declared.Ran.{Ran}
+
+-- the bytes of the store (document 01: the list buffer) that a plan of n components needs
+abbrev pub storeFor : ℕ → ℕ
+storeFor n = storeBytes
+
+abbrev pub needed : Plan → ℕ
+needed p = storeFor (p .count)
+
+-- the list of component i
+abbrev pub leafList : Plan → ℕ → List Focal
+leafList p i = collect (masses (getD (componentsOf p) i noComponent))
+
+-- What the walk on lists, the method, ends in.
+unfoldable pub walked : Plan → ℕ → Evaluation (List Focal)
+walked p allowance = walkLists _*_ allowance (leafList p) (entriesOf p) [] 0
+
+-- the topmost list of a stack: a plan that keeps the rules leaves just one
+abbrev pub topmost : List (List Focal) → List Focal
+topmost [] = []
+topmost (list ∷ stack) = list
+
+-- What the run answers: 0, the pairs formed and the length of the list that is left; or a refusal's number and zeros.
+abbrev pub ranOf : Evaluation (List Focal) → Ran
+ranOf (completed stack pairs) = record { number = 0; pairs = pairs; intervals = length (topmost stack) }
+ranOf (refused number) = record { number = number; pairs = 0; intervals = 0 }
+
+-- the list at the front of the store, zero in the rest of its first `size` bytes, later bytes untouched
+abbrev pub filled : ℕ → List Focal → List ℕ → List ℕ
+filled size list store = settled size list store
+
+-- zero in its first `size` bytes, later bytes untouched
+abbrev pub cleared : ℕ → List ℕ → List ℕ
+cleared size store = replicate size 0 ++ drop size store
+
+-- The store after a run: filled with the list that is left, or cleared.
+abbrev pub storeOf : ℕ → Evaluation (List Focal) → List ℕ → List ℕ
+storeOf size (completed stack pairs) store = filled size (topmost stack) store
+storeOf size (refused number) store = cleared size store
