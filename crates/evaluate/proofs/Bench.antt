@@ -1,75 +1,14 @@
--- The rows P1 to P10 of the bench table, from the sheets' bytes, by computation on the definitions. Assumes nothing.
-use Prim.Native.Nat.{ℕ}
-use mathlib.Core.Path.{_≡_, refl}
-use mathlib.Core.List.{List, [], _∷_}
-use Rattle.theory.specs.Focal.{Focal}
+-- The rows P1 to P10 of the bench table hold, by computation on the definitions. Assumes nothing.
+use mathlib.Core.Path.{refl}
 use Rattle.field.specs.Bits.{bit, fieldAt}
 use Rattle.block.specs.Rows.{row}
 use Rattle.block.specs.Block.{whole, zeroed, componentOf}
 use Rattle.sheet.specs.Rules.{rule6, rule7, rule8, rule9, rule10, rule11}
 use Rattle.sheet.specs.Reading.{startOf, planIn, badLayout, badZeros, readOf}
-use Rattle.evaluate.specs.declared.Answer.{Answer}
-use Rattle.theory.specs.Limits.{storeBytes}
-use Rattle.evaluate.specs.Answer.{refusal, planList, number, answer}
-
-abbrev iv : ℕ → ℕ → ℕ → Focal
-iv low high weight = record { low = low; high = high; weight = weight }
-
--- A: T 4, [0,0] weight 1, [2,3] weight 3. B: T 3, [1,1] weight 2, [1,4] weight 1. The two bytes of the structure follow.
-abbrev AB : List ℕ → List ℕ
-AB structure =
-    0x12 ∷ 0x1A ∷
-    0x20 ∷ 0x04 ∷ 0x00 ∷ 0x00 ∷ 0x00 ∷ 0x00 ∷ 0x40 ∷ 0x08 ∷ 0x00 ∷ 0xC0 ∷ 0x30 ∷
-    0x20 ∷ 0x03 ∷ 0x00 ∷ 0x10 ∷ 0x01 ∷ 0x00 ∷ 0x80 ∷ 0x04 ∷ 0x01 ∷ 0x00 ∷ 0x10 ∷ structure
-
-abbrev ABseries : List ℕ
-ABseries = AB (0x01 ∷ 0x80 ∷ [])
-
-abbrev ABshared : List ℕ
-ABshared = AB (0x01 ∷ 0x90 ∷ [])
-
-abbrev ABspare : List ℕ
-ABspare = AB (0x01 ∷ 0xA0 ∷ [])
-
--- W: source 002, example 2.1, speeds times 10, weights times 100, in series
-abbrev W : List ℕ
-W =
-    0x12 ∷ 0x1E ∷
-    0x30 ∷ 0x64 ∷ 0x00 ∷ 0x00 ∷ 0x04 ∷ 0x05 ∷ 0x00 ∷ 0x0C ∷ 0x02 ∷ 0x04 ∷ 0x30 ∷ 0x07 ∷ 0x00 ∷ 0xA0 ∷ 0x34 ∷
-    0x20 ∷ 0x64 ∷ 0x00 ∷ 0x00 ∷ 0x06 ∷ 0x10 ∷ 0xC0 ∷ 0x20 ∷ 0x02 ∷ 0x82 ∷ 0x10 ∷ 0x01 ∷ 0x80 ∷ []
-
--- an accepted answer
-abbrev accepted : ℕ → ℕ → ℕ → ℕ → ℕ → Answer
-accepted total belief plausibility pairs intervals =
-    record { number = 0; total = total; belief = belief; plausibility = plausibility; pairs = pairs; intervals = intervals }
-
--- the drive's list of a sheet, which an accepted call leaves in the store
-abbrev listed : List ℕ → List Focal
-listed sheet = planList ((readOf sheet) .plan)
-
--- with the allowance of the table and a store that is just long enough
-abbrev asked : List ℕ → ℕ → Answer
-asked sheet demand = answer sheet demand 1000 storeBytes
-
-pub record Bench : Type 0 where
-  pub P1-list : listed ABseries ≡ iv 0 0 3 ∷ iv 1 1 6 ∷ iv 1 3 3 ∷ []
-  pub P1 : asked ABseries 2 ≡ accepted 12 0 3 4 3
-  pub P2-list : listed ABshared ≡ iv 1 1 2 ∷ iv 1 4 1 ∷ iv 3 4 6 ∷ iv 3 7 3 ∷ []
-  pub P2 : asked ABshared 1 ≡ accepted 12 12 12 4 4
-  pub P3 : asked ABshared 3 ≡ accepted 12 9 10 4 4
-  pub P4-seven : asked ABshared 7 ≡ accepted 12 0 3 4 4
-  pub P4-eight : asked ABshared 8 ≡ accepted 12 0 0 4 4
-  pub P5 : asked ABshared 0 ≡ accepted 12 12 12 4 4
-  pub P6-list : listed ABspare ≡ iv 1 1 2 ∷ iv 1 4 1 ∷ iv 2 3 6 ∷ iv 2 4 3 ∷ []
-  pub P6 : asked ABspare 2 ≡ accepted 12 9 10 4 4
-  pub P7-list : listed W ≡ iv 0 4 2000 ∷ iv 0 6 5360 ∷ iv 3 8 2211 ∷ iv 7 10 429 ∷ []
-  pub P7 : asked W 0 ≡ accepted 10000 10000 10000 6 4
-  pub P8 : asked W 7 ≡ accepted 10000 429 2640 6 4
-  pub P9-four : answer ABshared 3 4 storeBytes ≡ accepted 12 9 10 4 4
-  pub P9-three : answer ABshared 3 3 storeBytes ≡ refusal 13
-  pub P10 : asked (AB (0x80 ∷ 0x10 ∷ [])) 0 ≡ refusal 11
+use Rattle.evaluate.specs.Answer.{answer}
+use Rattle.evaluate.specs.Bench.{Bench}
 
 pub bench : Bench
-unfolding bit fieldAt row whole zeroed componentOf rule6 rule7 rule8 rule9 rule10 rule11 startOf planIn badLayout badZeros readOf number answer
+unfolding bit fieldAt row whole zeroed componentOf rule6 rule7 rule8 rule9 rule10 rule11 startOf planIn badLayout badZeros readOf answer
 bench =
     record { P1-list = refl; P1 = refl; P2-list = refl; P2 = refl; P3 = refl; P4-seven = refl; P4-eight = refl; P5 = refl; P6-list = refl; P6 = refl; P7-list = refl; P7 = refl; P8 = refl; P9-four = refl; P9-three = refl; P10 = refl }

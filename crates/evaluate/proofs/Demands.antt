@@ -1,84 +1,100 @@
 -- The three demands hold: the statements of specs/Demands.antt. Assumes nothing.
-use Prim.Native.Nat.{ℕ, _<_}
+use Prim.Native.Nat.{ℕ, zero, suc, _≤_, _<_}
 use mathlib.Core.Path.{_≡_, refl, sym, ap, subst, _∙_}
 use mathlib.Core.Logic.{_⊎_, inl, inr}
 use mathlib.Core.List.{List}
+use native.Mathlib.Nat.{le-trans, pow-le-pow-right}
 use native.Mathlib.Omega.{arith}
 use lib.ListN.{length}
+use borrow.Author.Tests.{ne-eqb}
 use Rattle.theory.specs.declared.Entry.{Entry}
-use Rattle.theory.specs.Choices.{outcomes}
-use Rattle.theory.specs.Bounds.{Bounds}
 use Rattle.theory.specs.declared.Component.{Component}
+use Rattle.theory.specs.Structure.{Tree}
+use Rattle.theory.specs.Evaluation.{Evaluation, completed, refused}
+use Rattle.theory.specs.Limits.{mostTotal, mostComponents}
+use Rattle.theory.specs.Focal.{Focal, total}
+use Rattle.theory.specs.Bounds.{Bounds}
+use Rattle.theory.proofs.Every.{every-map}
 use Rattle.theory.proofs.Method.{Leaves}
-use Rattle.theory.proofs.Collect.{order-collect}
+use Rattle.theory.proofs.Collect.{order-collect, weightAt-collect}
 use Rattle.theory.proofs.Lists.{belief-collect, plausibility-collect}
-use Rattle.theory.proofs.Totals.{weights-driveList}
+use Rattle.theory.proofs.Totals.{weights-driveList, product-le}
+use Rattle.theory.proofs.Range.{spans-choices}
 use Rattle.theory.proofs.Bounds.{bounds}
+use Rattle.lists.specs.Records.{records}
+use Rattle.lists.proofs.Store.{front}
 use Rattle.sheet.specs.declared.Plan.{Plan}
+use Rattle.sheet.specs.Tests.{firstBroken}
 use Rattle.sheet.specs.Kept.{Kept}
-use Rattle.sheet.specs.Reading.{readOf}
+use Rattle.sheet.proofs.Some.{none-broken}
 use Rattle.sheet.proofs.Accepted.{written-number}
-use Rattle.sheet.proofs.Theorems.{read-keeps, written-is-read, read-is-written, nothing-written, rest-kept}
+use Rattle.sheet.proofs.Theorems.{written-is-read, read-is-written, nothing-written, rest-kept}
+use Rattle.run.specs.Run.{needed, filled, cleared}
+use Rattle.run.proofs.Entries.{components-count}
 use Rattle.evaluate.specs.declared.Answer.{Answer}
-use Rattle.evaluate.specs.Answer.{planList, number, answerBy, answer}
-use Rattle.evaluate.specs.Store.{cleared, storeBy}
-use Rattle.evaluate.specs.Demands.{components, structure, Passed, Broken, by-sheet, by-store, by-join, Demand-1, Writer, Demand-2, RoundTrips, Demand-3}
-use Rattle.evaluate.proofs.Ending.{left-by}
-use Rattle.evaluate.proofs.First.{sheet-kept, kept-sheet, sheet-broken, broken-sheet, plan-accepted, plan-refused}
-use Rattle.evaluate.proofs.Cases.{refusal-by, number-unread, number-short, number-run, Case, unread, short, stopped, accepted, case, answered, same-number, stored, unchanged}
+use Rattle.evaluate.specs.Answer.{planOf, components, structure, callTests, evaluated, ending, refusal, answerOf, answer}
+use Rattle.evaluate.specs.Store.{storeBy}
+use Rattle.evaluate.specs.Demands.{Passed, Broken, by-test, by-join, answerAt, answered, after, all, list, Demand-1, Writer, Demand-2, RoundTrips, Demand-3}
+use Rattle.evaluate.proofs.Numbers.{first-is, is-first, plan-accepted, plan-refused, tests-kept, Ended, tested, stopped, passed, ended, answered-by, stored-by}
+use Rattle.evaluate.proofs.Finish.{leaves-by, drive-fits, early, late, above, plan-keeps}
 
--- the number, and what it says
-module _ (s : List ℕ) (allowance room : ℕ) where
-  abbrev plan : Plan
-  plan = (readOf s) .plan
+-- what a call ends in, and what its number says
+module _ (s : List ℕ) (demand allowance room : ℕ) where
+  abbrev numberOf : Evaluation Tree → ℕ
+  numberOf v = (answerOf v (structure s) (components s) demand) .number
 
-  passed : (n : ℕ) → Case s allowance room n → n ≡ 0 → Passed s allowance room
-  passed n (unread h z) e = absurd (omega arith)
-  passed n (short z h) e = absurd (omega arith)
-  passed n (stopped z h (inl l) r) e = absurd (omega arith)
-  passed n (stopped z h (inr l) r) e = absurd (omega arith)
-  passed n (accepted {stack = stack} {pairs = pairs} z h r) e = record { sheet = sheet-kept s z; store = h; stack = stack; pairs = pairs; runs = r }
+  was-passed : {v : Evaluation Tree} → Ended s allowance room v → numberOf v ≡ 0 → Passed s allowance room
+  was-passed (tested h m z) e = absurd (omega arith)
+  was-passed (stopped {k = k} z l q) e = absurd (omega (arith, above k l))
+  was-passed (passed {stack = stack} {pairs = pairs} z q) e = record { tests = tests-kept s room z; stack = stack; pairs = pairs; runs = q }
 
-  passes : (K : Passed s allowance room) → number s allowance room ≡ 0
-  passes K = number-run s allowance room (kept-sheet s (K .sheet)) (K .store) ∙ rw (K .runs) refl
+  pub passes : (P : Passed s allowance room) → ending s allowance room ≡ completed (P .stack) (P .pairs)
+  passes P = rw (none-broken (P .tests), P .runs)
 
-  broken : (n : ℕ) → Case s allowance room n → 0 < n → Broken s allowance room n
-  broken n (unread h z) l = by-sheet (sheet-broken s n l z)
-  broken n (short z h) l = by-store (sheet-kept s z) h
-  broken n (stopped z h k r) l = by-join (sheet-kept s z) h k r
-  broken n (accepted z h r) l = absurd (omega arith)
+  was-broken : (k : ℕ) → 0 < k → {v : Evaluation Tree} → Ended s allowance room v → numberOf v ≡ k → Broken s allowance room k
+  was-broken k h (tested l m z) e = by-test (is-first (callTests s room) k h (z ∙ e))
+  was-broken k h (stopped z l q) e = subst (Broken s allowance room) e (by-join (tests-kept s room z) l q)
+  was-broken k h (passed z q) e = absurd (omega arith)
 
-  breaks : (k : ℕ) → 0 < k → Broken s allowance room k → number s allowance room ≡ k
-  breaks k l (by-sheet f) = number-unread s allowance room k l (broken-sheet s k f)
-  breaks k l (by-store z h) = number-short s allowance room (kept-sheet s z) h
-  breaks k l (by-join z h m r) = number-run s allowance room (kept-sheet s z) h ∙ rw r refl
+  breaks : (k : ℕ) → 0 < k → Broken s allowance room k → numberOf (ending s allowance room) ≡ k
+  breaks k h (by-join t l q) = rw (none-broken t, q)
+  breaks k h (by-test f) = go k h (first-is f)
+    where
+      go : (n : ℕ) → 0 < n → firstBroken (callTests s room) ≡ n → numberOf (ending s allowance room) ≡ n
+      go zero h e = absurd (omega arith)
+      go (suc n) h e = rw e
 
-  is : (K : Passed s allowance room) (d : ℕ) → answer s d allowance room ≡ answerBy 0 plan d (K .pairs)
-  is K d = answered s allowance room d 0 (passes K) ∙ ap (answerBy 0 plan d) (rw (K .runs) refl)
+  zeros : (k : ℕ) → 0 < k → (v : Evaluation Tree) → numberOf v ≡ k → answerOf v (structure s) (components s) demand ≡ refusal k
+  zeros k h (refused n) e = ap refusal e
+  zeros k h (completed stack pairs) e = absurd (omega arith)
+
+  module _ (size : ℕ) (l : List Focal) (store : List ℕ) (k : ℕ) where
+    store-late : (k ≡ 13) ⊎ (k ≡ 14) → {v : Evaluation Tree} → Ended s allowance room v → numberOf v ≡ k → storeBy v size l store ≡ cleared size store
+    store-late m (tested h b z) e = absurd (omega (arith, above k m))
+    store-late m (stopped {k = n} z b q) e = late n b (cleared size store) store
+    store-late m (passed z q) e = absurd (omega (arith, above k m))
+
+    store-kept : 0 < k → (k ≡ 13 → ⊥) → (k ≡ 14 → ⊥) → {v : Evaluation Tree} → Ended s allowance room v → numberOf v ≡ k → storeBy v size l store ≡ store
+    store-kept h a b (tested {k = n} i m z) e = early n m (cleared size store) store
+    store-kept h a b (stopped z (inl m) q) e = absurd (a (sym e ∙ m))
+    store-kept h a b (stopped z (inr m) q) e = absurd (b (sym e ∙ m))
+    store-kept h a b (passed z q) e = absurd (omega arith)
 
 module _ (s : List ℕ) (demand allowance : ℕ) (store : List ℕ) where
-  from-answer : {k : ℕ} → (answer s demand allowance (length store)) .number ≡ k → number s allowance (length store) ≡ k
-  from-answer e = sym (same-number s allowance (length store) demand) ∙ e
-
-  late : (k : ℕ) → (k ≡ 13) ⊎ (k ≡ 14) → storeBy k (planList ((readOf s) .plan)) store ≡ cleared store
-  late k (inl e) = rw e refl
-  late k (inr e) = rw e refl
-
   pub demand-1 : Demand-1 s demand allowance store
   demand-1 =
       let room = length store in
-      let n = number s allowance room in
-      let same = same-number s allowance room demand in
+      let end = ended s allowance room in
+      let same = answered-by s allowance demand room refl in
+      let number : (answered s demand allowance store) .number ≡ numberOf s demand allowance room (ending s allowance room) = ap (λ (a : Answer). a .number) same in
+      let l = list s demand allowance store in
       record {
-        accepted = (λ e. passed s allowance room n (case s allowance room) (from-answer e), λ K. same ∙ passes s allowance room K);
-        refused-by = λ k l. (
-          λ e. subst (Broken s allowance room) (from-answer e) (broken s allowance room n (case s allowance room) (omega (arith, from-answer e))),
-          λ b. same ∙ breaks s allowance room k l b,
-        );
-        zeros = λ k l e. answered s allowance room demand k (from-answer e) ∙ refusal-by k l _ demand _;
-        store-accepted = λ e. stored s demand allowance store 0 (from-answer e);
-        store-late = λ k h e. stored s demand allowance store k (from-answer e) ∙ late k h;
-        store-kept = λ k l a b e. stored s demand allowance store k (from-answer e) ∙ unchanged s demand allowance store k l a b;
+        accepted = (λ e. was-passed s demand allowance room end (sym number ∙ e), λ P. ap (λ (a : Answer). a .number) (answered-by s allowance demand room (passes s demand allowance room P)));
+        refused-by = λ k h. (λ e. was-broken s demand allowance room k h end (sym number ∙ e), λ b. number ∙ breaks s demand allowance room k h b);
+        zeros = λ k h e. same ∙ zeros s demand allowance room k h (ending s allowance room) (sym number ∙ e);
+        store-accepted = λ e. stored-by s allowance store (passes s demand allowance room (was-passed s demand allowance room end (sym number ∙ e)));
+        store-late = λ k m e. stored-by s allowance store refl ∙ store-late s demand allowance room (needed (planOf s)) l store k m end (sym number ∙ e);
+        store-kept = λ k h a b e. stored-by s allowance store refl ∙ store-kept s demand allowance room (needed (planOf s)) l store k h a b end (sym number ∙ e);
       }
 
 pub writer : (p : Plan) (buffer : List ℕ) → Writer p buffer
@@ -107,39 +123,49 @@ bounds-of {es} {cs} {v} {w} {f} {g} {h} {k} e p q b = record {
 }
 
 -- an accepted call
-module _ (s : List ℕ) (demand allowance : ℕ) (store : List ℕ) (e : (answer s demand allowance (length store)) .number ≡ 0) where
-  K : Passed s allowance (length store)
-  K = demand-1 s demand allowance store .accepted .0 e
+module _ (s : List ℕ) (demand allowance : ℕ) (store : List ℕ) (e : (answered s demand allowance store) .number ≡ 0) where
+  P : Passed s allowance (length store)
+  P = demand-1 s demand allowance store .accepted .0 e
 
-  keeps : Kept ((readOf s) .plan)
-  keeps = read-keeps s (kept-sheet s (K .sheet))
+  keeps : Kept (planOf s)
+  keeps = plan-keeps s demand allowance store (none-broken (P .tests))
 
-  leaves : Leaves (components s) (structure s) (K .stack) (K .pairs)
-  leaves = left-by keeps allowance (K .stack) (K .pairs) (K .runs)
+  leaves : Leaves (components s) (structure s) (P .stack) (P .pairs)
+  leaves = leaves-by keeps allowance (P .stack) (P .pairs) (P .runs)
 
-  answer-is : (d : ℕ) → answer s d allowance (length store) ≡ answerBy 0 ((readOf s) .plan) d (K .pairs)
-  answer-is = is s allowance (length store) K
+  answer-is : (d : ℕ) → answerAt s demand allowance store d ≡ answerOf (completed (P .stack) (P .pairs)) (structure s) (components s) d
+  answer-is d = answered-by s allowance d (length store) (passes s demand allowance (length store) P)
 
   pub demand-2 : Demand-2 s demand allowance store
   demand-2 =
       let a = answer-is demand in
-      let all = outcomes (structure s) (components s) in
+      let every = all s demand allowance store in
+      let l = list s demand allowance store in
+      let total-is : (answered s demand allowance store) .total ≡ total (components s) = ap (λ (x : Answer). x .total) a in
+      let n : (answered s demand allowance store) .intervals ≡ length l = ap (λ (x : Answer). x .intervals) a in
+      let is : after s demand allowance store ≡ filled (needed (planOf s)) l store = demand-1 s demand allowance store .store-accepted e in
+      let fits = drive-fits keeps leaves in
+      let six : length (components s) ≤ mostComponents = omega (arith, components-count (planOf s), keeps .most) in
       record {
-        total-is = ap (λ (x : Answer). x .total) a;
+        total-is = total-is;
         belief-is = ap (λ (x : Answer). x .belief) a;
         plausibility-is = ap (λ (x : Answer). x .plausibility) a;
-        list-is = demand-1 s demand allowance store .store-accepted e;
-        list-length = ap (λ (x : Answer). x .intervals) a;
-        list-ordered = order-collect all;
-        list-weights = weights-driveList (keeps .balanced) (structure s);
-        list-belief = belief-collect demand all ∙ sym (ap (λ (x : Answer). x .belief) a);
-        list-plausibility = plausibility-collect demand all ∙ sym (ap (λ (x : Answer). x .plausibility) a);
+        total-most = rw total-is (le-trans (product-le (λ c. c .total) mostTotal (every-map (λ c t. t .1) (keeps .totals))) (pow-le-pow-right {n = mostTotal} (omega arith) six));
+        spans = spans-choices (structure s) (keeps .inRange);
+        list-length = n;
+        list-is = is;
+        list-read = rw (n, is) (front (needed (planOf s)) store (fits .0) (fits .1));
+        list-ordered = order-collect every;
+        list-weight = λ low high. weightAt-collect low high every;
+        list-weights = weights-driveList (keeps .balanced) (structure s) ∙ sym total-is;
+        list-belief = λ d. belief-collect d every ∙ sym (ap (λ (x : Answer). x .belief) (answer-is d));
+        list-plausibility = λ d. plausibility-collect d every ∙ sym (ap (λ (x : Answer). x .plausibility) (answer-is d));
         tree = leaves .tree;
         built = leaves .built;
         pairs-are = ap (λ (x : Answer). x .pairs) a ∙ leaves .counted;
       }
 
-  pub demand-3 : Demand-3 s demand allowance (length store)
+  pub demand-3 : Demand-3 s demand allowance store
   demand-3 =
       bounds-of (sym (demand-2 .total-is))
       (λ d. sym (ap (λ (x : Answer). x .belief) (answer-is d)))

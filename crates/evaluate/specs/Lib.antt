@@ -1,5 +1,5 @@
--- The call: what it answers, and what the lent store then holds.
+-- The call: what it answers, what the lent store then holds, the demands on both, and the rows P1 to P10 of the bench table.
 pub mod Answer
 pub mod Store
-pub mod Stack
 pub mod Demands
+pub mod Bench

@@ -1,28 +1,22 @@
--- What the store holds after a call: every byte of it, by the number. Assumes nothing.
+-- What the store holds after a call: every byte of it. Assumes nothing.
 use Prim.Native.Nat.{ℕ}
 use mathlib.Core.Bool.{cond, _||_}
-use mathlib.Core.List.{List, _++_}
+use mathlib.Core.List.{List}
 use lib.Dec.{eqb}
-use lib.ListN.{length, drop, replicate}
+use lib.ListN.{length}
 use Rattle.theory.specs.Focal.{Focal}
-use Rattle.lists.specs.Building.{settled}
-use Rattle.sheet.specs.Reading.{readOf}
-use Rattle.theory.specs.Limits.{storeBytes}
-use Rattle.evaluate.specs.Answer.{planList, number}
+use Rattle.theory.specs.Structure.{Tree}
+use Rattle.theory.specs.Lists.{driveList}
+use Rattle.theory.specs.Evaluation.{Evaluation, completed, refused}
+use Rattle.run.specs.Run.{needed, filled, cleared}
+use Rattle.evaluate.specs.Answer.{planOf, components, structure, ending}
 
--- 0: the drive's list at the front, and zero up to the end of the working region; later bytes untouched
-abbrev pub filled : List Focal → List ℕ → List ℕ
-filled list store = settled storeBytes list store
+-- Accepted: the drive's list and zeros in the bytes that the plan needs. 13 and 14: zeros there. Every other number: unchanged.
+abbrev pub storeBy : Evaluation Tree → ℕ → List Focal → List ℕ → List ℕ
+storeBy (completed stack pairs) size list store = filled size list store
+storeBy (refused number) size list store = cond (eqb number 13 || eqb number 14) (cleared size store) store
 
--- 13 and 14: the working region zero
-abbrev pub cleared : List ℕ → List ℕ
-cleared store = replicate storeBytes 0 ++ drop storeBytes store
-
--- every other number: unchanged
-abbrev pub storeBy : ℕ → List Focal → List ℕ → List ℕ
-storeBy number list store =
-    cond (eqb number 0) (filled list store) (cond (eqb number 13 || eqb number 14) (cleared store) store)
-
--- The store after a call.
+-- the store after a call
 unfoldable pub storeAfter : List ℕ → ℕ → List ℕ → List ℕ
-storeAfter sheet allowance store = storeBy (number sheet allowance (length store)) (planList ((readOf sheet) .plan)) store
+storeAfter sheet allowance store =
+    storeBy (ending sheet allowance (length store)) (needed (planOf sheet)) (driveList (structure sheet) (components sheet)) store

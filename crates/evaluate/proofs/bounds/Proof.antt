@@ -1,77 +1,95 @@
--- `evaluate::bounds` meets its contract: the four ways that a call can go. Assumes nothing.
+-- `evaluate::bounds` meets its contract: refused by a test, refused by the run, or accepted. Assumes nothing.
+use Prim.Native.Nat.{ℕ, _≤_}
 use mathlib.Core.Path.{_≡_, sym, ap, subst, _∙_}
 use mathlib.Core.List.{List}
-use Prim.Native.Nat.{ℕ}
-use native.Mathlib.Omega.{arith}
+use lib.ListN.{length}
+use Rattle.theory.specs.Focal.{total}
 use Rattle.sheet.specs.declared.Plan.{Plan}
 use Rattle.sheet.specs.declared.Reading.{Reading}
+use Rattle.sheet.specs.Tests.{firstBroken}
+use Rattle.sheet.specs.Plan.{componentsOf}
 use Rattle.sheet.specs.Kept.{Kept}
-use Rattle.sheet.specs.Reading.{readOf}
-use Rattle.sheet.proofs.Theorems.{read-keeps}
-use Rattle.evaluate.specs.Answer.{refusal, planList, ran, planAnswer}
-use Rattle.evaluate.specs.Store.{storeBy}
-use Rattle.evaluate.proofs.Cases.{unread-call, short-call, run-call}
+use Rattle.run.specs.Run.{needed, walked, ranOf, storeOf}
+use Rattle.evaluate.specs.Answer.{planOf, callTests, refusal}
+use Rattle.evaluate.proofs.Numbers.{tests-say, tested-is}
+use Rattle.evaluate.proofs.Finish.{tested-call, Finished, plan-keeps, finish}
 use borrow.Author.Needs.{needs}
 use Rattle.evaluate.proofs.bounds.Statement.{statement}
 use Rattle.evaluate.proofs.bounds.Tie as tie
 
--- what was read
-module _ (c : tie.After-read-sheet) where
+-- past the tests
+module _ (c : tie.After-tested) where
   abbrev start : tie.Start
   start = c .before .before .before
 
   abbrev sheet : List ℕ
   sheet = start .args .sheet .now
 
-  number-is : c .read-sheet .result .number ≡ (readOf sheet) .number
-  number-is = ap (λ (r : Reading). r .number) (c .read-sheet .ensures)
+  abbrev store : List ℕ
+  store = start .args .store .now
 
-  plan-is : c .read-sheet .result .plan ≡ (readOf sheet) .plan
-  plan-is = ap (λ (r : Reading). r .plan) (c .read-sheet .ensures)
+  abbrev p : Plan
+  p = c .tested .result .plan
 
-read-sheet-requires : tie.Need-read-sheet-requires
-read-sheet-requires c κs = search needs
+  number-is : c .tested .result .number ≡ firstBroken (callTests sheet (length store))
+  number-is = ap (λ (r : Reading). r .number) (c .tested .ensures ∙ tested-is sheet (length store))
 
-refuse-requires : tie.Need-refuse-requires
-refuse-requires c κs = search needs
+  plan-is : p ≡ planOf sheet
+  plan-is = ap (λ (r : Reading). r .plan) (c .tested .ensures ∙ tested-is sheet (length store))
+
+  module _ (z : c .tested .result .number ≡ 0) where
+    keeps : Kept p
+    keeps = rw plan-is (plan-keeps sheet (start .args .demand) (start .args .allowance) store (sym number-is ∙ z))
+
+-- past the run
+finished : (c : tie.After-run-plan) → let a = c .before .before .before .before .before in
+    Finished (sheet a) (start a .args .demand) (start a .args .allowance) (store a) (c .run-plan .result) (c .run-plan .last .1 .1 .0)
+finished c =
+    let a = c .before .before .before .before .before in
+    let s = start a in
+    finish (sheet a) (s .args .demand) (s .args .allowance) (store a) (sym (number-is a) ∙ c .before .before .before .if1 .left)
+    (c .run-plan .result) (c .run-plan .last .1 .1 .0)
+    (c .run-plan .ensures .0 ∙ ap (λ (q : Plan). ranOf (walked q (s .args .allowance))) (plan-is a))
+    (c .run-plan .ensures .1 ∙ ap (λ (q : Plan). storeOf (needed q) (walked q (s .args .allowance)) (store a)) (plan-is a))
 
 returns : tie.Need-returns
 returns c =
-    let r = c .before .before in
-    let s = start r in
-    let n : (readOf (sheet r)) .number ≡ 0 → ⊥ = λ z. c .before .if1 .taken (number-is r ∙ z) in
-    let call = unread-call (sheet r) (s .args .demand) (s .args .allowance) (s .args .store .now) (omega (arith, n)) in
-    (c .refuse .ensures ∙ (ap refusal (number-is r) ∙ call .0), call .1)
+    let a = c .before .before .before in
+    let s = start a in
+    let call = tested-call (sheet a) (s .args .demand) (s .args .allowance) (store a) (a .tested .result .number) (sym (number-is a)) (c .before .if1 .taken) in
+    (c .refuse .ensures ∙ call .0, call .1)
 
-refuse-requires-2 : tie.Need-refuse-requires-2
-refuse-requires-2 c κs = search needs
+run-plan-requires : tie.Need-run-plan-requires
+run-plan-requires c κs =
+    let a = c .before .before .before .before in
+    let z = c .before .before .if1 .left in
+    (keeps a z, subst (λ (q : Plan). needed q ≤ length (store a)) (sym (plan-is a)) (tests-say (sheet a) (length (store a)) (sym (number-is a) ∙ z) .1))
 
 returns-2 : tie.Need-returns-2
 returns-2 c =
-    let r = c .before .before .before in
-    let s = start r in
-    let call = short-call (sheet r) (s .args .demand) (s .args .allowance) (s .args .store .now) (sym (number-is r) ∙ c .before .before .if1 .left) (c .before .if2 .taken) in
-    (c .refuse2 .ensures ∙ call .0, call .1)
+    let r = c .before .before .before .before .before in
+    (c .refuse2 .ensures ∙ finished r .refuses (c .before .if2 .taken), finished r .stored)
 
-answer-plan-requires : tie.Need-answer-plan-requires
-answer-plan-requires c κs =
-    let r = c .before .before .before .before in
-    (subst Kept (sym (plan-is r)) (read-keeps (sheet r) (sym (number-is r) ∙ c .before .before .before .if1 .left)), c .before .before .if2 .left)
+shares-at-requires : tie.Need-shares-at-requires
+shares-at-requires c κs = finished (c .before .before .before .before .before) .readable (c .before .if2 .left)
 
-same-length : tie.Need-same-length
-same-length c = search needs
+total-of-requires : tie.Need-total-of-requires
+total-of-requires c κs =
+    let e = c .before .before .before .before .before .before .before .before .before in
+    keeps (e .before .before) (e .if1 .left)
 
 returns-3 : tie.Need-returns-3
 returns-3 c =
-    let a = c .before .before in
-    let r = a .before .before .before .before .before in
-    let s = start r in
-    let p = r .read-sheet .result .plan in
-    let call = run-call (sheet r) (s .args .demand) (s .args .allowance) (s .args .store .now) (sym (number-is r) ∙ a .before .before .before .before .if1 .left) (a .before .before .before .if2 .left) in (
-      a .answer-plan .ensures .0 ∙ (ap (λ (q : Plan). planAnswer q (s .args .demand) (s .args .allowance)) (plan-is r) ∙ call .0),
-      a .answer-plan .ensures .1 ∙ (ap (λ (q : Plan). storeBy ((ran q (s .args .allowance)) .number) (planList q) (s .args .store .now)) (plan-is r) ∙ call .1),
+    let h = c .before in
+    let r = h .before .before .before .before .before .before in
+    let a = r .before .before .before .before .before in (
+      finished r .accepts (h .before .before .if2 .left) (c .total-of .result) (c .total-of .ensures ∙ ap (λ (q : Plan). total (componentsOf q)) (plan-is a))
+          (h .shares-at .result) (h .shares-at .ensures),
+      finished r .stored,
     )
 
 pub bounds-spec : {M : Type 1} → statement M
 bounds-spec =
-    tie.close (tie.spec read-sheet-requires refuse-requires returns refuse-requires-2 returns-2 answer-plan-requires same-length returns-3)
+    tie.close
+    (tie.spec (λ c κs. search needs) (λ c κs. search needs) returns run-plan-requires (λ c κs. search needs) (λ c. search needs) returns-2
+    shares-at-requires total-of-requires (λ c. search needs) returns-3)

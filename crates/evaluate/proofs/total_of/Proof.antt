@@ -14,7 +14,7 @@ use Rattle.sheet.specs.declared.Plan.{Plan}
 use Rattle.sheet.specs.Plan.{componentAt, componentsOf}
 use Rattle.sheet.proofs.Loops.{from, from-zero, from-next, from-end}
 use Rattle.sheet.specs.Kept.{Kept}
-use Rattle.evaluate.proofs.Entries.{components-count, component-is}
+use Rattle.run.proofs.Entries.{components-count, component-is}
 use borrow.Author.Needs.{needs}
 use Rattle.evaluate.proofs.total_of.Statement.{statement}
 use Rattle.evaluate.proofs.total_of.Tie as tie

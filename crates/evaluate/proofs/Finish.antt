@@ -1,0 +1,156 @@
+-- From the run of a plan to the answer of a call: the list that the run leaves is the drive's, and is read back from the store. Assumes nothing.
+use Prim.Native.Nat.{ℕ, zero, suc, _*_, _^_, _≤_, _<_}
+use mathlib.Core.Path.{_≡_, refl, sym, ap, _∙_}
+use mathlib.Core.Bool.{cond, _||_}
+use mathlib.Core.Logic.{_⊎_, inl, inr}
+use mathlib.Core.List.{List, [], _∷_, _++_, map}
+use native.Mathlib.Omega.{arith}
+use lib.Dec.{ltb, eqb}
+use lib.ListN.{length, length-append}
+use borrow.Author.Tests.{ne-eqb}
+use Rattle.theory.specs.Sums.{Every}
+use Rattle.theory.specs.Focal.{Focal, weights, total}
+use Rattle.theory.specs.declared.Component.{Component}
+use Rattle.theory.specs.declared.Entry.{Entry}
+use Rattle.theory.specs.Structure.{Tree, leaves}
+use Rattle.theory.specs.Choices.{outcomes, belief, plausibility}
+use Rattle.theory.specs.Lists.{driveList, listOf}
+use Rattle.theory.specs.Evaluation.{Evaluation, completed, refused, evaluate}
+use Rattle.theory.specs.Limits.{recordBytes}
+use Rattle.theory.proofs.Every.{every-map}
+use Rattle.theory.proofs.Lists.{belief-collect, plausibility-collect}
+use Rattle.theory.proofs.Method.{Leaves, method}
+use Rattle.theory.proofs.Structure.{named-length, leafCount, run-leaves}
+use Rattle.theory.proofs.Totals.{speeds-fit, weight-fits}
+use Rattle.theory.proofs.Walk.{image, evaluate-lists, evaluate-refused}
+use Rattle.lists.specs.declared.Shares.{Shares}
+use Rattle.lists.specs.Records.{encode, records, Under, speedLimit}
+use Rattle.lists.specs.Building.{sharesOf}
+use Rattle.lists.proofs.Records.{length-encode}
+use Rattle.lists.proofs.Store.{front}
+use Rattle.sheet.specs.declared.Plan.{Plan}
+use Rattle.sheet.specs.Tests.{firstBroken}
+use Rattle.sheet.specs.Plan.{componentsOf, entriesOf}
+use Rattle.sheet.specs.Kept.{Kept}
+use Rattle.sheet.proofs.Theorems.{read-keeps}
+use Rattle.run.specs.declared.Ran.{Ran}
+use Rattle.run.specs.Run.{needed, walked, ranOf, filled, cleared, storeOf}
+use Rattle.run.proofs.Entries.{components-count}
+use Rattle.evaluate.specs.Answer.{planOf, components, structure, callTests, evaluated, ending, refusal, answer}
+use Rattle.evaluate.specs.Store.{storeAfter}
+use Rattle.evaluate.proofs.Numbers.{tests-most, tests-say, answered-by, stored-by}
+
+-- ---- a plan that keeps the rules
+
+-- how the walk on lists ends, and how the evaluation
+pub data Ends (cs : List Component) (es : List Entry) : Evaluation (List Focal) → Evaluation Tree → Type 0 where
+  stops : {k : ℕ} → (k ≡ 13) ⊎ (k ≡ 14) → Ends cs es (refused k) (refused k)
+  leaves-one : {stack : List Tree} {pairs : ℕ} → Leaves cs es stack pairs → Ends cs es (completed (driveList es cs ∷ []) pairs) (completed stack pairs)
+
+module _ {p : Plan} (K : Kept p) where
+  abbrev cs : List Component
+  cs = componentsOf p
+
+  abbrev es : List Entry
+  es = entriesOf p
+
+  pub leaves-by : (allowance : ℕ) (stack : List Tree) (pairs : ℕ) → evaluate cs allowance es ≡ completed stack pairs → Leaves cs es stack pairs
+  leaves-by allowance = method (K .positive) allowance es (K .entries ∙ ap (2 *_) (sym (components-count p))) (λ i. K .namedOnce i ∙ named i) (K .findTwo)
+    where
+      named : (i : ℕ) → _≡_ {A = ℕ} (cond (ltb i (p .count)) 1 0) (cond (ltb i (length cs)) 1 0)
+      named i = ap (λ n. cond (ltb i n) 1 0) (sym (components-count p))
+
+  pub run-ends : (allowance : ℕ) → Ends cs es (walked p allowance) (evaluate cs allowance es)
+  unfolding walked
+  run-ends allowance = rw (evaluate-lists (K .positive) allowance es) (go (evaluate cs allowance es) refl)
+    where
+      go : (v : Evaluation Tree) → evaluate cs allowance es ≡ v → Ends cs es (image (listOf cs) v) v
+      go (refused k) q = stops (evaluate-refused cs allowance es k q)
+      go (completed stack pairs) q =
+          let L : Leaves cs es stack pairs = leaves-by allowance stack pairs q in
+          let one : map (listOf cs) stack ≡ driveList es cs ∷ [] = ap (map (listOf cs)) (L .left) ∙ ap (_∷ []) (L .list) in
+          rw one (leaves-one L)
+
+  -- the numbers of the drive's list fit records
+  pub drive-fits : {stack : List Tree} {pairs : ℕ} → Leaves cs es stack pairs → Every (Under speedLimit) (driveList es cs) × (weights (driveList es cs) < 2 ^ 64)
+  drive-fits L =
+      let few : length (leaves (L .tree)) ≤ 6 = omega (arith, run-leaves es [], ap leafCount (L .built), named-length (p .count) es (K .namedOnce), K .most) in (
+        rw (L .list) at (every-map {Q = Under speedLimit} (λ f q. (omega (arith, q .0), omega (arith, q .1))) (speeds-fit (K .inRange) (L .tree) few)),
+        rw (L .list) at (weight-fits (every-map (λ c q. q .1) (K .totals)) (K .balanced) (L .tree) few),
+      )
+
+-- a list that a store holds takes its records' bytes
+filled-room : (size : ℕ) (l : List Focal) (s : List ℕ) → recordBytes * length l ≤ length (filled size l s)
+filled-room size l s = simp length-append (omega (arith, length-encode l))
+
+-- 13 and 14 clear the store, and lie above the numbers of the tests, which do not
+pub early : (k : ℕ) → k ≤ 12 → (x y : List ℕ) → cond (eqb k 13 || eqb k 14) x y ≡ y
+early k h x y = rw (ne-eqb k 13 (λ q. omega arith), ne-eqb k 14 (λ q. omega arith))
+
+pub late : (k : ℕ) → (k ≡ 13) ⊎ (k ≡ 14) → (x y : List ℕ) → cond (eqb k 13 || eqb k 14) x y ≡ x
+late k (inl e) x y = rw e
+late k (inr e) x y = rw e
+
+pub above : (k : ℕ) → (k ≡ 13) ⊎ (k ≡ 14) → 12 < k
+above k (inl e) = omega arith
+above k (inr e) = omega arith
+
+-- ---- a call
+
+module _ (s : List ℕ) (demand allowance : ℕ) (store : List ℕ) where
+  abbrev list : List Focal
+  list = driveList (structure s) (components s)
+
+  abbrev all : List Focal
+  all = outcomes (structure s) (components s)
+
+  -- refused by a test
+  pub tested-call : (k : ℕ) → firstBroken (callTests s (length store)) ≡ k → (k ≡ 0 → ⊥) → (refusal k ≡ answer s demand allowance (length store)) × (store ≡ storeAfter s allowance store)
+  tested-call zero e z = absurd (z refl)
+  tested-call (suc k) e z =
+      let w : ending s allowance (length store) ≡ refused (suc k) = rw e in
+      let m : suc k ≤ 12 = omega (arith, tests-most s (length store)) in
+      (sym (answered-by s allowance demand (length store) w), sym (stored-by s allowance store w ∙ early (suc k) m _ store))
+
+  -- past the tests: what the run answers, and the store that it leaves
+  pub record Finished (r : Ran) (x : List ℕ) : Type 0 where
+    pub stored : x ≡ storeAfter s allowance store
+    pub refuses : (r .number ≡ 0 → ⊥) → refusal (r .number) ≡ answer s demand allowance (length store)
+    pub readable : r .number ≡ 0 → (recordBytes * r .intervals ≤ length x) × (weights (records (r .intervals) x) < 2 ^ 64)
+    pub accepts : r .number ≡ 0 → (u : ℕ) → u ≡ total (components s) → (b : Shares) → b ≡ sharesOf demand (records (r .intervals) x)
+        → record { number = 0; total = u; belief = b .belief; plausibility = b .plausibility; pairs = r .pairs; intervals = r .intervals }
+        ≡ answer s demand allowance (length store)
+
+  pub plan-keeps : firstBroken (callTests s (length store)) ≡ 0 → Kept (planOf s)
+  plan-keeps z = read-keeps s (tests-say s (length store) z .0)
+
+  pub finish : firstBroken (callTests s (length store)) ≡ 0 → (r : Ran) (x : List ℕ)
+      → r ≡ ranOf (walked (planOf s) allowance) → x ≡ storeOf (needed (planOf s)) (walked (planOf s) allowance) store → Finished r x
+  finish z r x e f = go (run-ends (plan-keeps z) allowance) refl e f
+    where
+      go : {w : Evaluation (List Focal)} {v : Evaluation Tree} → Ends (components s) (structure s) w v → evaluated s allowance ≡ v
+          → r ≡ ranOf w → x ≡ storeOf (needed (planOf s)) w store → Finished r x
+      go {w} {v} (stops {k = k} l) q e f =
+          let n : r .number ≡ k = ap (λ (y : Ran). y .number) e in
+          let u : ending s allowance (length store) ≡ refused k = rw (z, q) in
+          record {
+            stored = f ∙ sym (stored-by s allowance store u ∙ late k l (cleared (needed (planOf s)) store) store);
+            refuses = λ h. ap refusal n ∙ sym (answered-by s allowance demand (length store) u);
+            readable = λ h. absurd (omega (arith, above k l));
+            accepts = λ h. absurd (omega (arith, above k l));
+          }
+      go (leaves-one {stack = stack} {pairs = pairs} L) q e f =
+          let m : r .intervals ≡ length list = ap (λ (y : Ran). y .intervals) e in
+          let u : ending s allowance (length store) ≡ completed stack pairs = rw (z, q) in
+          let fits = drive-fits (plan-keeps z) L in
+          let back : records (r .intervals) x ≡ list = rw (m, f) (front (needed (planOf s)) store (fits .0) (fits .1)) in
+          record {
+            stored = f ∙ sym (stored-by s allowance store u);
+            refuses = λ h. absurd (h (ap (λ (y : Ran). y .number) e));
+            readable = λ h. (rw (m, f) (filled-room (needed (planOf s)) list store), rw back (fits .1));
+            accepts = λ h t t-is b b-is.
+                let shares : b ≡ record { belief = belief demand all; plausibility = plausibility demand all } =
+                b-is ∙ (ap (sharesOf demand) back ∙ (λ i. record { belief = belief-collect demand all i; plausibility = plausibility-collect demand all i })) in
+                (λ i. record { number = 0; total = t-is i; belief = shares i .belief; plausibility = shares i .plausibility; pairs = e i .pairs; intervals = m i })
+                ∙ sym (answered-by s allowance demand (length store) u);
+          }

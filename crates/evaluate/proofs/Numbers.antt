@@ -1,0 +1,150 @@
+-- The number of a call: the first of its tests that is broken, or that of the run. Assumes nothing.
+use Prim.Native.Nat.{ℕ, zero, suc, _≤_, _<_}
+use mathlib.Core.Path.{_≡_, refl, sym, ap, _∙_}
+use mathlib.Core.Bool.{Bool, true, false, cond}
+use mathlib.Core.Logic.{_⊎_, _↔_}
+use mathlib.Core.List.{List, [], _∷_, _++_}
+use native.Mathlib.Decide.{ℕ-discrete}
+use native.Mathlib.Omega.{arith}
+use lib.Dec.{ltb}
+use lib.ListN.{length}
+use borrow.Author.Tests.{lt-ltb, le-ltb, ltb-false}
+use Rattle.theory.specs.Sums.{Every}
+use Rattle.theory.specs.Structure.{Tree}
+use Rattle.theory.specs.Lists.{driveList}
+use Rattle.theory.specs.Evaluation.{Evaluation, completed, refused}
+use Rattle.theory.proofs.Every.{every-map}
+use Rattle.theory.proofs.Walk.{evaluate-refused}
+use Rattle.sheet.specs.declared.Plan.{Plan}
+use Rattle.sheet.specs.declared.Reading.{Reading}
+use Rattle.sheet.specs.Tests.{Test, test, firstBroken, outside, some}
+use Rattle.sheet.specs.Reading.{sheetTests, reading, planIn, readOf}
+use Rattle.sheet.specs.Writing.{planTests, numberOf}
+use Rattle.sheet.proofs.Some.{each, within, all-kept, none-broken}
+use Rattle.sheet.proofs.Accepted.{first-found, first-none}
+use Rattle.run.specs.Run.{needed}
+use Rattle.evaluate.specs.Answer.{planOf, components, structure, callTests, testedOf, evaluated, testedFirst, ending, answerOf, answer}
+use Rattle.evaluate.specs.Store.{storeBy, storeAfter}
+use Rattle.evaluate.specs.Demands.{Unbroken, First, here, later}
+
+-- the first broken test
+pub first-is : {ts : List Test} {k : ℕ} → First ts k → firstBroken ts ≡ k
+first-is (here q e) = rw q e
+first-is (later q r) = rw q (first-is r)
+
+pub is-first : (ts : List Test) (k : ℕ) → 0 < k → firstBroken ts ≡ k → First ts k
+is-first [] k h e = absurd (omega arith)
+is-first (t ∷ ts) k h e = go (t .broken) refl e (is-first ts k h)
+  where
+    go : (b : Bool) → t .broken ≡ b → firstBroken (t ∷ ts) ≡ k → (firstBroken ts ≡ k → First ts k) → First (t ∷ ts) k
+    go true q e rest = here q (rw q at e)
+    go false q e rest = later q (rest (rw q at e))
+
+at-most : (n : ℕ) {ts : List Test} → Every (λ t. t .number ≤ n) ts → firstBroken ts ≤ n
+at-most n Every.none = omega arith
+at-most n (Every.more {x = t} {xs = ts} p r) = go (t .broken) refl (at-most n r)
+  where
+    go : (b : Bool) → t .broken ≡ b → firstBroken ts ≤ n → firstBroken (t ∷ ts) ≤ n
+    go true q h = rw q p
+    go false q h = rw q h
+
+-- tests with numbers from 1 to n, by a test of all
+module _ (n : ℕ) (ts : List Test) (e : some (λ t. outside 1 n (t .number)) ts ≡ false) where
+  numbers : Every (λ t. (1 ≤ t .number) × (t .number ≤ n)) ts
+  numbers = each (λ t. outside 1 n (t .number)) ts (λ t h. within 1 n (t .number) h) e
+
+  pub no-number : firstBroken ts ≡ 0 → Every Unbroken ts
+  no-number = all-kept ts (every-map (λ t h. h .0) numbers)
+
+  pub most-number : firstBroken ts ≤ n
+  most-number = at-most n (every-map (λ t h. h .1) numbers)
+
+reading-number : (n : ℕ) (p : Plan) → (reading n p) .number ≡ n
+reading-number zero p = refl
+reading-number (suc n) p = refl
+
+-- of a plan to be written
+module _ (p : Plan) (room : ℕ) where
+  pub plan-accepted : (numberOf p room ≡ 0) ↔ Every Unbroken (planTests p room)
+  plan-accepted = (no-number 15 (planTests p room) refl, none-broken)
+
+  pub plan-refused : (k : ℕ) → 0 < k → (numberOf p room ≡ k) ↔ First (planTests p room) k
+  plan-refused k h = (is-first (planTests p room) k h, first-is)
+
+-- of a call
+module _ (s : List ℕ) (room : ℕ) where
+  abbrev twelve : List Test
+  twelve = test 12 (ltb room (needed (planOf s))) ∷ []
+
+  read-number : (readOf s) .number ≡ firstBroken (sheetTests s)
+  unfolding readOf
+  read-number = reading-number (firstBroken (sheetTests s)) (planIn s)
+
+  number-unread : ((readOf s) .number ≡ 0 → ⊥) → firstBroken (callTests s room) ≡ (readOf s) .number
+  number-unread h = first-found (sheetTests s) twelve (λ z. h (read-number ∙ z)) ∙ sym read-number
+
+  number-read : (readOf s) .number ≡ 0 → firstBroken (callTests s room) ≡ cond (ltb room (needed (planOf s))) 12 0
+  number-read z = first-none twelve (no-number 11 (sheetTests s) refl (sym read-number ∙ z))
+
+  pub tests-kept : firstBroken (callTests s room) ≡ 0 → Every Unbroken (callTests s room)
+  tests-kept = no-number 12 (callTests s room) refl
+
+  pub tests-most : firstBroken (callTests s room) ≤ 12
+  tests-most = most-number 12 (callTests s room) refl
+
+  -- what is known of a plan whose tests are all kept
+  pub tests-say : firstBroken (callTests s room) ≡ 0 → ((readOf s) .number ≡ 0) × (needed (planOf s) ≤ room)
+  tests-say e = elim (ℕ-discrete ((readOf s) .number) 0) [
+    | yes z ↦ (z, room-there (ltb room (needed (planOf s))) refl (sym (number-read z) ∙ e))
+    | no n ↦ absurd (n (sym (number-unread n) ∙ e))
+  ]
+    where
+      room-there : (b : Bool) → ltb room (needed (planOf s)) ≡ b → _≡_ {A = ℕ} (cond b 12 0) 0 → needed (planOf s) ≤ room
+      room-there true q z = absurd (omega arith)
+      room-there false q z = ltb-false room (needed (planOf s)) q
+
+  -- the three ways of the tests
+  abbrev numbered : ℕ → Reading
+  numbered k = record { number = k; plan = planOf s }
+
+  pub tested-unread : ((readOf s) .number ≡ 0 → ⊥) → readOf s ≡ testedOf s room
+  unfolding testedOf
+  tested-unread h = ap numbered (sym (number-unread h))
+
+  pub tested-short : (readOf s) .number ≡ 0 → room < needed (planOf s) → numbered 12 ≡ testedOf s room
+  unfolding testedOf
+  tested-short z h = ap numbered (sym (number-read z ∙ rw (lt-ltb room (needed (planOf s)) h)))
+
+  pub tested-kept : (readOf s) .number ≡ 0 → needed (planOf s) ≤ room → readOf s ≡ testedOf s room
+  unfolding testedOf
+  tested-kept z h = ap numbered (z ∙ sym (number-read z ∙ rw (le-ltb room (needed (planOf s)) h)))
+
+  pub tested-is : testedOf s room ≡ numbered (firstBroken (callTests s room))
+  unfolding testedOf
+  tested-is = refl
+
+-- What a call ends in: refused by a test, at a join, or accepted.
+pub data Ended (s : List ℕ) (allowance room : ℕ) : Evaluation Tree → Type 0 where
+  tested : {k : ℕ} → 0 < k → k ≤ 12 → firstBroken (callTests s room) ≡ k → Ended s allowance room (refused k)
+  stopped : {k : ℕ} → firstBroken (callTests s room) ≡ 0 → (k ≡ 13) ⊎ (k ≡ 14) → evaluated s allowance ≡ refused k → Ended s allowance room (refused k)
+  passed : {stack : List Tree} {pairs : ℕ} → firstBroken (callTests s room) ≡ 0 → evaluated s allowance ≡ completed stack pairs
+      → Ended s allowance room (completed stack pairs)
+
+pub ended : (s : List ℕ) (allowance room : ℕ) → Ended s allowance room (ending s allowance room)
+ended s allowance room = go (firstBroken (callTests s room)) refl (evaluated s allowance) refl
+  where
+    go : (n : ℕ) → firstBroken (callTests s room) ≡ n → (v : Evaluation Tree) → evaluated s allowance ≡ v → Ended s allowance room (testedFirst n v)
+    go zero z (completed stack pairs) q = passed z q
+    go zero z (refused k) q = stopped z (evaluate-refused (components s) allowance (structure s) k q) q
+    go (suc k) z v q = tested {k = suc k} (omega arith) (omega (arith, tests-most s room)) z
+
+-- the answer and the store by that
+module _ (s : List ℕ) (allowance : ℕ) {v : Evaluation Tree} where
+  pub answered-by : (demand room : ℕ) → ending s allowance room ≡ v → answer s demand allowance room ≡ answerOf v (structure s) (components s) demand
+  unfolding answer
+  answered-by demand room e = ap (λ (w : Evaluation Tree). answerOf w (structure s) (components s) demand) e
+
+  pub stored-by : (store : List ℕ) → ending s allowance (length store) ≡ v
+      → storeAfter s allowance store ≡ storeBy v (needed (planOf s)) (driveList (structure s) (components s)) store
+  unfolding storeAfter
+  stored-by store e = ap (λ (w : Evaluation Tree). storeBy w (needed (planOf s)) (driveList (structure s) (components s)) store) e

@@ -1,0 +1,67 @@
+-- The rows P1 to P10 of the bench table, from the sheets' bytes. They are proved in proofs/Bench.antt. Assumes nothing.
+use Prim.Native.Nat.{ℕ}
+use mathlib.Core.Path.{_≡_}
+use mathlib.Core.List.{List, [], _∷_}
+use Rattle.theory.specs.Focal.{Focal}
+use Rattle.theory.specs.Lists.{driveList}
+use Rattle.evaluate.specs.declared.Answer.{Answer}
+use Rattle.theory.specs.Limits.{storeBytes}
+use Rattle.evaluate.specs.Answer.{components, structure, refusal, answer}
+
+-- an interval with its weight
+abbrev pub iv : ℕ → ℕ → ℕ → Focal
+iv low high weight = record { low = low; high = high; weight = weight }
+
+-- A: T 4, [0,0] weight 1, [2,3] weight 3. B: T 3, [1,1] weight 2, [1,4] weight 1. The two bytes of the structure follow.
+abbrev pub AB : List ℕ → List ℕ
+AB structure =
+    0x12 ∷ 0x1A ∷
+    0x20 ∷ 0x04 ∷ 0x00 ∷ 0x00 ∷ 0x00 ∷ 0x00 ∷ 0x40 ∷ 0x08 ∷ 0x00 ∷ 0xC0 ∷ 0x30 ∷
+    0x20 ∷ 0x03 ∷ 0x00 ∷ 0x10 ∷ 0x01 ∷ 0x00 ∷ 0x80 ∷ 0x04 ∷ 0x01 ∷ 0x00 ∷ 0x10 ∷ structure
+
+abbrev pub ABseries : List ℕ
+ABseries = AB (0x01 ∷ 0x80 ∷ [])
+
+abbrev pub ABshared : List ℕ
+ABshared = AB (0x01 ∷ 0x90 ∷ [])
+
+abbrev pub ABspare : List ℕ
+ABspare = AB (0x01 ∷ 0xA0 ∷ [])
+
+-- W: source 002, example 2.1, speeds times 10, weights times 100, in series
+abbrev pub W : List ℕ
+W =
+    0x12 ∷ 0x1E ∷
+    0x30 ∷ 0x64 ∷ 0x00 ∷ 0x00 ∷ 0x04 ∷ 0x05 ∷ 0x00 ∷ 0x0C ∷ 0x02 ∷ 0x04 ∷ 0x30 ∷ 0x07 ∷ 0x00 ∷ 0xA0 ∷ 0x34 ∷
+    0x20 ∷ 0x64 ∷ 0x00 ∷ 0x00 ∷ 0x06 ∷ 0x10 ∷ 0xC0 ∷ 0x20 ∷ 0x02 ∷ 0x82 ∷ 0x10 ∷ 0x01 ∷ 0x80 ∷ []
+
+-- an accepted answer
+abbrev pub accepted : ℕ → ℕ → ℕ → ℕ → ℕ → Answer
+accepted total belief plausibility pairs intervals =
+    record { number = 0; total = total; belief = belief; plausibility = plausibility; pairs = pairs; intervals = intervals }
+
+-- the drive's list of a sheet, which an accepted call leaves in the store
+abbrev pub listLeft : List ℕ → List Focal
+listLeft sheet = driveList (structure sheet) (components sheet)
+
+-- with the allowance of the table and a store that is just long enough
+abbrev pub asked : List ℕ → ℕ → Answer
+asked sheet demand = answer sheet demand 1000 storeBytes
+
+pub record Bench : Type 0 where
+  pub P1-list : listLeft ABseries ≡ iv 0 0 3 ∷ iv 1 1 6 ∷ iv 1 3 3 ∷ []
+  pub P1 : asked ABseries 2 ≡ accepted 12 0 3 4 3
+  pub P2-list : listLeft ABshared ≡ iv 1 1 2 ∷ iv 1 4 1 ∷ iv 3 4 6 ∷ iv 3 7 3 ∷ []
+  pub P2 : asked ABshared 1 ≡ accepted 12 12 12 4 4
+  pub P3 : asked ABshared 3 ≡ accepted 12 9 10 4 4
+  pub P4-seven : asked ABshared 7 ≡ accepted 12 0 3 4 4
+  pub P4-eight : asked ABshared 8 ≡ accepted 12 0 0 4 4
+  pub P5 : asked ABshared 0 ≡ accepted 12 12 12 4 4
+  pub P6-list : listLeft ABspare ≡ iv 1 1 2 ∷ iv 1 4 1 ∷ iv 2 3 6 ∷ iv 2 4 3 ∷ []
+  pub P6 : asked ABspare 2 ≡ accepted 12 9 10 4 4
+  pub P7-list : listLeft W ≡ iv 0 4 2000 ∷ iv 0 6 5360 ∷ iv 3 8 2211 ∷ iv 7 10 429 ∷ []
+  pub P7 : asked W 0 ≡ accepted 10000 10000 10000 6 4
+  pub P8 : asked W 7 ≡ accepted 10000 429 2640 6 4
+  pub P9-four : answer ABshared 3 4 storeBytes ≡ accepted 12 9 10 4 4
+  pub P9-three : answer ABshared 3 3 storeBytes ≡ refusal 13
+  pub P10 : asked (AB (0x80 ∷ 0x10 ∷ [])) 0 ≡ refusal 11
