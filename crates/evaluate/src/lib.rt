@@ -81,9 +81,10 @@ pub fn bounds(sheet: &[u8], demand: u32, allowance: u32, store: &mut [u8]) -> An
     }
     let n = r.intervals;
     let s = lists::shares_at(store, n, demand as u64);
+    let u = total_of(p);
     Answer {
         number: 0,
-        total: total_of(p),
+        total: u,
         belief: s.belief,
         plausibility: s.plausibility,
         pairs: r.pairs,
