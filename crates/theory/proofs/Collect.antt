@@ -118,7 +118,3 @@ pub same-collect : {fs gs : List Focal} → Every Positive fs → Every Positive
 same-collect {fs} {gs} p q h =
     canonical (order-collect fs) (positive-collect p) (order-collect gs) (positive-collect q)
     (λ a b. weightAt-collect a b fs ∙ (weightAt-weigh a b fs ∙ (h (is a b) ∙ (sym (weightAt-weigh a b gs) ∙ sym (weightAt-collect a b gs)))))
-
--- A list in order is its own collection.
-pub collect-fixed : {fs : List Focal} → InOrder fs → Every Positive fs → collect fs ≡ fs
-collect-fixed {fs} o p = canonical (order-collect fs) (positive-collect p) o p (λ a b. weightAt-collect a b fs)

@@ -50,6 +50,11 @@ abbrev pub collect : List Focal → List Focal
 collect [] = []
 collect (f ∷ fs) = inserted f (collect fs)
 
+-- all of fs inserted into a list, one after the other from the left
+abbrev pub insertAll : List Focal → List Focal → List Focal
+insertAll l [] = l
+insertAll l (f ∷ fs) = insertAll (inserted f l) fs
+
 -- The drive's list: the collected outcomes of all choices.
 abbrev pub driveList : List Entry → List Component → List Focal
 driveList es cs = collect (outcomes es cs)
