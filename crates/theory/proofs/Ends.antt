@@ -75,16 +75,16 @@ module _ (end : Focal → ℕ) (inside : (f : Focal) → InRange f → (f .low �
 
 module _ {cs : List Component} (r : AllInRange cs) where
   pub lows-divide : Divides 1 cs (atEnds (λ f. f .low) cs)
-  lows-divide = divides-at (λ f. f .low) (λ f h. (le-refl (f .low), h .upright)) r
+  lows-divide = divides-at (λ f. f .low) (λ f h. (le-refl (f .low), h .low-high)) r
 
   pub highs-divide : Divides 1 cs (atEnds (λ f. f .high) cs)
-  highs-divide = divides-at (λ f. f .high) (λ f h. (h .upright, le-refl (f .high))) r
+  highs-divide = divides-at (λ f. f .high) (λ f h. (h .low-high, le-refl (f .high))) r
 
   pub lows-meet : (es : List Entry) (d : ℕ) → shareAbove es (atEnds (λ f. f .low) cs) d ≡ belief d (outcomes es cs)
-  lows-meet es d = share-is es (atEnds (λ f. f .low) cs) d ∙ (draws-at (λ f. f .low) (λ f h. (le-refl (f .low), h .upright)) r (meets es d) ∙ sym (belief-is es cs d))
+  lows-meet es d = share-is es (atEnds (λ f. f .low) cs) d ∙ (draws-at (λ f. f .low) (λ f h. (le-refl (f .low), h .low-high)) r (meets es d) ∙ sym (belief-is es cs d))
 
   pub highs-meet : (es : List Entry) (d : ℕ) → shareAbove es (atEnds (λ f. f .high) cs) d ≡ plausibility d (outcomes es cs)
-  highs-meet es d = share-is es (atEnds (λ f. f .high) cs) d ∙ (draws-at (λ f. f .high) (λ f h. (h .upright, le-refl (f .high))) r (meets es d) ∙ sym (plausibility-is es cs d))
+  highs-meet es d = share-is es (atEnds (λ f. f .high) cs) d ∙ (draws-at (λ f. f .high) (λ f h. (h .low-high, le-refl (f .high))) r (meets es d) ∙ sym (plausibility-is es cs d))
 
 -- with the scale factor 1 the denominator is the total
 pub total-at-one : (cs : List Component) → shareTotal 1 cs ≡ total cs

@@ -10,6 +10,7 @@ pub mod Bridge
 pub mod Structure
 pub mod Walk
 pub mod Totals
+pub mod Fits
 pub mod Shares
 pub mod Ends
 pub mod Range

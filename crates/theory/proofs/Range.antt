@@ -22,11 +22,11 @@ under-highs (Within.more h k r) = Under.more k (under-highs r)
 
 lows-within : {ch : List Focal} → Every InRange ch → Within ch (lows ch)
 lows-within Every.none = Within.none
-lows-within (Every.more {x = f} h r) = Within.more (le-refl (f .low)) (h .upright) (lows-within r)
+lows-within (Every.more {x = f} h r) = Within.more (le-refl (f .low)) (h .low-high) (lows-within r)
 
 highs-within : {ch : List Focal} → Every InRange ch → Within ch (highs ch)
 highs-within Every.none = Within.none
-highs-within (Every.more {x = f} h r) = Within.more (h .upright) (le-refl (f .high)) (highs-within r)
+highs-within (Every.more {x = f} h r) = Within.more (h .low-high) (le-refl (f .high)) (highs-within r)
 
 pub spans : (es : List Entry) {ch : List Focal} → Every InRange ch → Spans es ch
 spans es {ch} r = record {

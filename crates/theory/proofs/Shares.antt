@@ -17,7 +17,7 @@ use Rattle.theory.specs.Choices.{choices, outcomes, belief, plausibility
 use Rattle.theory.specs.Division.{speeds, Parts, SplitsOne, Splits, Divides, draws, putOn, drawWeight, shareAbove, shareTotal}
 use Rattle.theory.specs.declared.Component.{Component}
 use Rattle.theory.proofs.Sums.{sum-ext, sum-le, sum-scale, sum-add, sum-zero, sum-map, sum-oneOfEach, cond-mul}
-use Rattle.theory.proofs.Monotone.{Under, none, more, under-refl, Φ-mono}
+use Rattle.theory.proofs.Monotone.{Under, more, under-refl, Φ-mono}
 
 abbrev pub wt : Focal → ℕ
 wt f = f .weight

@@ -4,7 +4,7 @@ use mathlib.Core.Path.{_≡_, refl, sym, ap, _∙_}
 use mathlib.Core.Bool.{true, cond, false≢true}
 use mathlib.Core.List.{List, [], _∷_, _++_}
 use native.Mathlib.Omega.{arith}
-use lib.Dec.{eqb}
+use lib.Dec.{eqb, ltb}
 use lib.ListN.{length, length-append}
 use borrow.Author.Tests.{eq-eqb}
 use Rattle.theory.specs.Sums.{sumBy, countFrom, countOf}
@@ -61,8 +61,12 @@ one-left [] h = absurd (omega arith)
 one-left (t ∷ []) h = (t, refl)
 one-left (t ∷ u ∷ ts) h = absurd (omega arith)
 
+-- a list that has each number below n once, and no other, has n numbers
+pub once-length : (n : ℕ) (is : List ℕ) → ((i : ℕ) → countOf i is ≡ cond (ltb i n) 1 0) → length is ≡ n
+once-length n is once = same-length (countFrom 0 n) is (λ j. once j ∙ sym (count-all j n)) ∙ length-count 0 n
+
 pub named-length : (n : ℕ) (es : List Entry) → NamedOnce n es → length (named es) ≡ n
-named-length n es names = same-length (countFrom 0 n) (named es) (λ j. names j ∙ sym (count-all j n)) ∙ length-count 0 n
+named-length n es = once-length n (named es)
 
 pub one-tree : (n : ℕ) (es : List Entry) → length es + 1 ≡ 2 * n → NamedOnce n es → joinsFindTwo es 0 ≡ true
     → (t : Tree) × (trees es ≡ t ∷ []) × NamesEach n t

@@ -33,10 +33,14 @@ weights = sumBy (λ f. f .weight)
 abbrev pub total : List Component → ℕ
 total = productBy (λ c. c .total)
 
+-- An interval with its low at most its high, and no speed above `top`.
+pub record UpTo (top : ℕ) (f : Focal) : Type 0 where
+  pub low-high : f .low ≤ f .high
+  pub below : f .high ≤ top
+
 -- What numbers 7 and 8 leave of an accepted sheet's components: low at most high, speeds in range, no weight 0, weights that add to T.
-pub record InRange (f : Focal) : Type 0 where
-  pub upright : f .low ≤ f .high
-  pub below : f .high ≤ topSpeed
+abbrev pub InRange : Focal → Type 0
+InRange = UpTo topSpeed
 
 abbrev pub Positive : Focal → Type 0
 Positive f = 0 < f .weight

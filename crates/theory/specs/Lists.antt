@@ -1,11 +1,12 @@
 -- Lists: ascending by low, then by high, no interval twice; the drive's list and that of a sub-structure. Assumes nothing.
-use Prim.Native.Nat.{ℕ, _+_, _*_, _<_, compare, Ordering, Ordering·lt, Ordering·eq, Ordering·gt}
+use Prim.Native.Nat.{ℕ, _+_, _*_, _^_, _<_, _≤_, compare, Ordering, Ordering·lt, Ordering·eq, Ordering·gt}
 use mathlib.Core.Path.{_≡_}
 use mathlib.Core.Logic.{_⊎_}
 use mathlib.Core.List.{List, [], _∷_}
 use lib.ListN.{getD}
 use Rattle.theory.specs.Sums.{Every}
-use Rattle.theory.specs.Focal.{Focal, masses}
+use Rattle.theory.specs.Limits.{topSpeed, mostTotal}
+use Rattle.theory.specs.Focal.{Focal, masses, weights, UpTo}
 use Rattle.theory.specs.Joins.{pairsBy, pairs}
 use Rattle.theory.specs.declared.Entry.{Entry}
 use Rattle.theory.specs.Structure.{Tree, leaf, node}
@@ -78,3 +79,8 @@ outcomesOf cs (node op l r) = pairs op (outcomesOf cs l) (outcomesOf cs r)
 -- the list of a sub-structure
 abbrev pub listOf : List Component → Tree → List Focal
 listOf cs t = collect (outcomesOf cs t)
+
+-- A list over m components: no speed above m times the highest of a component, and weights that add to at most the m-th power of the highest T.
+pub record Fits (m : ℕ) (l : List Focal) : Type 0 where
+  pub speeds : Every (UpTo (topSpeed * m)) l
+  pub sum : weights l ≤ mostTotal ^ m
