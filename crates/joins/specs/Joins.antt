@@ -46,8 +46,8 @@ abbrev pub joinIn : Join → List ℕ → ℕ → ℕ → ℕ → ℕ → List F
 joinIn op s left na right nb = collect (pairsIn op s left na right nb)
 
 -- the store after their join, whose list goes to byte `free`
-abbrev pub joinStore : Join → List ℕ → ℕ → ℕ → ℕ → ℕ → ℕ → List ℕ
-joinStore op s left na right nb free = holdingFrom s free (fill [] (pairsIn op s left na right nb) .list)
+abbrev pub joinedStore : Join → List ℕ → ℕ → ℕ → ℕ → ℕ → ℕ → List ℕ
+joinedStore op s left na right nb free = holdingFrom s free (fill [] (pairsIn op s left na right nb) .list)
 
 -- what the speeds of two lists keep below, so that those of their join fit a record
 abbrev pub operandLimit : ℕ

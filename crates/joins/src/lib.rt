@@ -13,7 +13,7 @@ ghost use Rattle.records.specs.Records.{records, Under, speedLimit, keyed};
 ghost use Rattle.records.specs.Store.{copiedFrom, holding, holdingFrom};
 ghost use Rattle.records.specs.Insertion.{Insertable};
 ghost use Rattle.joins.specs.Filling.{fill};
-ghost use Rattle.joins.specs.Joins.{joinedAs, joinNumber, joinLength, numberOfJoin, lengthOfJoin, joinIn, joinStore, operandLimit, Joinable};
+ghost use Rattle.joins.specs.Joins.{joinedAs, joinNumber, joinLength, numberOfJoin, lengthOfJoin, joinIn, joinedStore, operandLimit, Joinable};
 use records::SPEEDS;
 use theory::Component;
 use theory::Join;
@@ -109,7 +109,7 @@ fn join_copied(
     ensures { λ r. ⌜ r ≡ joinedAs (joinIn op (now (store .entry)) left na right nb) ⌝ }
     ensures { λ r. ⌜ joinNumber r ≡ numberOfJoin (joinIn op (now (store .entry)) left na right nb) ⌝ }
     ensures { λ r. ⌜ joinLength r ≡ lengthOfJoin (joinIn op (now (store .entry)) left na right nb) ⌝ }
-    ensures { λ _. ⌜ now (store .exit) ≡ joinStore op (now (store .entry)) left na right nb free ⌝ }
+    ensures { λ _. ⌜ now (store .exit) ≡ joinedStore op (now (store .entry)) left na right nb free ⌝ }
     ensures { λ _. ⌜ now (a .exit) ≡ copiedFrom (now (store .entry)) left (recordBytes * na) (now (a .entry)) ⌝ }
     ensures { λ _. ⌜ now (b .exit) ≡ copiedFrom (now (store .entry)) right (recordBytes * nb) (now (b .entry)) ⌝ }
 {
@@ -140,7 +140,7 @@ pub fn join_in_store(
     ensures { λ r. ⌜ r ≡ joinedAs (joinIn op (now (store .entry)) left na right nb) ⌝ }
     ensures { λ r. ⌜ joinNumber r ≡ numberOfJoin (joinIn op (now (store .entry)) left na right nb) ⌝ }
     ensures { λ r. ⌜ joinLength r ≡ lengthOfJoin (joinIn op (now (store .entry)) left na right nb) ⌝ }
-    ensures { λ _. ⌜ now (store .exit) ≡ joinStore op (now (store .entry)) left na right nb free ⌝ }
+    ensures { λ _. ⌜ now (store .exit) ≡ joinedStore op (now (store .entry)) left na right nb free ⌝ }
 {
     if na <= SHORT {
         if nb <= SHORT {

@@ -61,13 +61,13 @@ module _ (s : List ℕ) (free : ℕ) (l : List Focal) where
       ∙ rw (length-take-le free s (omega arith), length-holding (drop free s) l (rw length-drop (omega arith)), length-drop) (omega arith)
 
   -- the new list stands there
-  pub from-list : free ≤ length s → Every (Under speedLimit) l → weights l < 2 ^ 64 → listIn (holdingFrom s free l) free (length l) ≡ l
-  from-list h u t =
+  pub listIn-from : free ≤ length s → Every (Under speedLimit) l → weights l < 2 ^ 64 → listIn (holdingFrom s free l) free (length l) ≡ l
+  listIn-from h u t =
       rw (drop-at (take free s) (holding (drop free s) l) free (length-take-le free s h)) (records-encode (drop (12 * length l) (drop free s)) u t)
 
   -- and every list before it as it stood
-  pub from-before : (start n : ℕ) → free ≤ length s → start + 12 * n ≤ free → listIn (holdingFrom s free l) start n ≡ listIn s start n
-  from-before start n h k =
+  pub listIn-before : (start n : ℕ) → free ≤ length s → start + 12 * n ≤ free → listIn (holdingFrom s free l) start n ≡ listIn s start n
+  listIn-before start n h k =
       let t : List ℕ = holding (drop free s) l in
       let lt : length (take free s) ≡ free = length-take-le free s h in
       rw (drop-append-le start (take free s) t (omega arith))
@@ -75,8 +75,8 @@ module _ (s : List ℕ) (free : ℕ) (l : List Focal) where
       ∙ ap (records n) (sym (drop-append-le start (take free s) (drop free s) (omega arith)) ∙ ap (drop start) (take-append-drop free s)))
 
   -- later bytes too
-  pub from-behind : (end : ℕ) → free + 12 * length l ≤ end → free ≤ length s → drop end (holdingFrom s free l) ≡ drop end s
-  from-behind end h k =
+  pub drop-from : (end : ℕ) → free + 12 * length l ≤ end → free ≤ length s → drop end (holdingFrom s free l) ≡ drop end s
+  drop-from end h k =
       let t : List ℕ = holding (drop free s) l in
       let lt : length (take free s) ≡ free = length-take-le free s k in
       let e : end ≡ length (take free s) + (end - free) = omega arith in

@@ -1,7 +1,7 @@
 -- `joins::join_copied` meets its contract: the operands are copied out, the join fills the rest of the store. Assumes nothing.
 use mathlib.Core.Path.{_≡_, ap, _∙_}
 use mathlib.Core.List.{List, [], _++_}
-use Prim.Native.Nat.{ℕ, _≤_, _+_, _*_, _-_}
+use Prim.Native.Nat.{_*_, _-_}
 use native.Mathlib.Omega.{arith}
 use lib.ListN.{length, take, drop, length-drop}
 use borrow.Author.Needs.{needs}
@@ -14,7 +14,7 @@ use Rattle.records.specs.Store.{copiedFrom, listIn, holding}
 use Rattle.records.proofs.Store.{copy-holds}
 use Rattle.joins.specs.declared.Joined.{Joined}
 use Rattle.joins.specs.Filling.{fill}
-use Rattle.joins.specs.Joins.{joinedAs, joinNumber, joinLength, numberOfJoin, lengthOfJoin, pairsIn, joinStore}
+use Rattle.joins.specs.Joins.{joinedAs, joinNumber, joinLength, numberOfJoin, lengthOfJoin, pairsIn, joinedStore}
 use Rattle.joins.proofs.Rest.{copied, rest-lent}
 use Rattle.joins.proofs.Answer.{made, full, answered}
 use Rattle.joins.proofs.join_copied.Statement.{statement}
@@ -58,7 +58,7 @@ count-is c = c .join-lists .ensures .0 ∙ ap (λ (l : List Focal). fill [] l .c
 
 bytes-are : (c : tie.After-join-lists) → let a = start c .args in
     take (a .free) (a .store .now) ++ (c .join-lists .last .1 .1 .1 .1 .1 .0 ++ drop (length (a .store .now) - a .free) (drop (a .free) (a .store .now)))
-    ≡ joinStore (a .op) (a .store .now) (a .left) (a .na) (a .right) (a .nb) (a .free)
+    ≡ joinedStore (a .op) (a .store .now) (a .left) (a .na) (a .right) (a .nb) (a .free)
 bytes-are c =
     let a = start c .args in
     rest-lent (a .store .now) (a .free) _ _ (c .join-lists .ensures .1 ∙ (λ k. holding (part-rest (a .store .now) (a .free) k) (fill [] (pairs-are c k) .list)))

@@ -1,5 +1,4 @@
 -- `joins::join_in_store` meets its contract: either way the operands are copied out to where there is room for them. Assumes nothing.
-use Prim.Native.Nat.{_≤_}
 use native.Mathlib.Omega.{arith}
 use borrow.Author.Needs.{needs}
 use Rattle.joins.proofs.join_in_store.Statement.{statement}

@@ -2,7 +2,7 @@
 -- wanted. Assumes nothing.
 use mathlib.Core.Path.{_≡_, refl, sym, ap, _∙_, subst}
 use mathlib.Core.List.{List, [], _++_, map}
-use Prim.Native.Nat.{ℕ, _≤_, _<_, _+_, _*_, _-_, _/_, _%_}
+use Prim.Native.Nat.{_≤_, _<_, _+_, _*_, _-_}
 use native.Mathlib.Nat.{zero-add}
 use native.Mathlib.Omega.{arith}
 use lib.ListN.{length, drop, drop-of-length-le}

@@ -1,10 +1,9 @@
 -- `joins::put_listed` meets its contract. The invariant: out holds the list of the first i intervals. Assumes nothing.
-use mathlib.Core.Path.{_≡_, sym, _∙_, subst}
-use mathlib.Core.List.{List, []}
-use Prim.Native.Nat.{ℕ, _≤_, _<_, _+_, _*_, _-_, _/_, _%_, _^_}
+use mathlib.Core.Path.{_≡_, _∙_, subst}
+use mathlib.Core.List.{List}
+use Prim.Native.Nat.{ℕ, _≤_, _<_, _+_, _*_, _-_, _^_}
 use native.Mathlib.Omega.{arith}
 use borrow.Author.Needs.{needs}
-use lib.ListN.{length}
 use Rattle.theory.specs.Focal.{Focal, focalAt, weights}
 use Rattle.theory.specs.declared.Component.{Component}
 use Rattle.theory.specs.Lists.{InOrder, inserted}
