@@ -1,6 +1,6 @@
 -- Demand 3 on the definitions: belief and plausibility are the bounds of the share of time. Assumes nothing.
 use Prim.Native.Nat.{ℕ, _*_}
-use mathlib.Core.Path.{_≡_, sym, ap₂}
+use mathlib.Core.Path.{sym, ap₂}
 use mathlib.Core.List.{List}
 use native.Mathlib.Nat.{le-refl}
 use Rattle.theory.specs.Focal.{total, AllInRange}

@@ -19,14 +19,14 @@ use Rattle.theory.proofs.Monotone.{Side, end, end-inside}
 use Rattle.theory.proofs.Shares.{endSum, drawSum, endSum-cons, drawSum-cons, putOn-sum, meets, shares, shares-is, shareAbove-is}
 
 -- a sum over the speeds with one term
-speeds-point : (a : ℕ) (g : ℕ → ℕ) → a ≤ topSpeed → sumBy (λ v. cond (eqb v a) (g v) 0) speeds ≡ g a
+speeds-point : (a : ℕ) (g : ℕ → ℕ) → a ≤ topSpeed → sumBy (λ v. cond (eqb a v) (g v) 0) speeds ≡ g a
 unfolding speeds
 speeds-point a g h = sum-point a g 0 (suc topSpeed) (omega arith) (omega arith)
 
 module _ (side : Side) where
   -- the whole weight of an interval on one of its ends
   abbrev pub allOn : Focal → Parts
-  allOn f s = cond (eqb s (end side f)) (f .weight) 0
+  allOn f s = cond (eqb (end side f) s) (f .weight) 0
 
   abbrev pub atEnds : List Component → List (List Parts)
   atEnds cs = map (λ c. map allOn (masses c)) cs
@@ -38,15 +38,15 @@ module _ (side : Side) where
     at-one : (g : ℕ → ℕ) → sumBy (λ s. allOn f s * g s) speeds ≡ f .weight * g (end side f)
     at-one g =
         let i : Inside f (end side f) = inside in
-        sum-ext (λ s. push (eqb s (end side f)) (g s)) speeds ∙ speeds-point (end side f) (λ s. f .weight * g s) (omega (arith, r .below))
+        sum-ext (λ s. push (eqb (end side f) s) (g s)) speeds ∙ speeds-point (end side f) (λ s. f .weight * g s) (omega (arith, r .below))
       where
         push : (b : Bool) (k : ℕ) → cond b (f .weight) 0 * k ≡ cond b (f .weight * k) 0
         push true k = refl
         push false k = zero-mul k
 
-    split-one : (s : ℕ) (b : Bool) → eqb s (end side f) ≡ b → 0 < cond b (f .weight) 0 → Inside f s
+    split-one : (s : ℕ) (b : Bool) → eqb (end side f) s ≡ b → 0 < cond b (f .weight) 0 → Inside f s
     split-one s true e h =
-        let q : s ≡ end side f = eqb-true s (end side f) e in
+        let q : end side f ≡ s = eqb-true (end side f) s e in
         let i : Inside f (end side f) = inside in
         omega arith
     split-one s false e h = absurd (lt-irrefl 0 h)
@@ -72,7 +72,7 @@ module _ (side : Side) where
   splits-at : {fs : List Focal} → Every InRange fs → Splits 1 fs (map allOn fs)
   splits-at Every.none = Forall₂·nil
   splits-at (Every.more {x = f} r rs) =
-      Forall₂·cons (record { inside = λ s. split-one f r s (eqb s (end side f)) refl; whole = split-whole f r }) (splits-at rs)
+      Forall₂·cons (record { inside = λ s. split-one f r s (eqb (end side f) s) refl; whole = split-whole f r }) (splits-at rs)
 
   pub divides-at : {cs : List Component} → AllInRange cs → Divides 1 cs (atEnds cs)
   divides-at Every.none = Forall₂·nil

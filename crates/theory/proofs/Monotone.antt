@@ -1,10 +1,9 @@
 -- The structure function is monotone: at no lower speeds of the components the drive is no slower. Assumes nothing.
-use Prim.Native.Nat.{ℕ, zero, suc, _+_, _*_, _≤_, _<_}
+use Prim.Native.Nat.{ℕ, zero, suc, _+_, _*_, _≤_}
 use mathlib.Core.Path.{_≡_, refl}
 use mathlib.Core.Bool.{Bool, true, false, cond}
-use mathlib.Core.Logic.{_⊎_, inl, inr}
 use mathlib.Core.List.{List, [], _∷_, map, Forall₂, Forall₂·nil, Forall₂·cons}
-use native.Mathlib.Nat.{le-refl, le-trans, add-le-add, mul-le-mul-left, eq-zero-or-pos, zero-mul}
+use native.Mathlib.Nat.{le-refl, le-trans, add-le-add, mul-le-mul-left}
 use native.Mathlib.Omega.{arith}
 use lib.Dec.{leb}
 use lib.ListN.{getD}
