@@ -13,15 +13,15 @@ use Rattle.theory.specs.Focal.{Focal, masses, weights, UpTo, InRange, Al
 use Rattle.theory.specs.Joins.{joined, joinedFocal, pairs}
 use Rattle.theory.specs.declared.Entry.{Entry}
 use Rattle.theory.specs.Structure.{NamedOnce, joinsFindTwo, Tree, leaf, node, leaves}
-use Rattle.theory.specs.Lists.{merged, collect, joinLists, driveList, noComponent, outcomesOf, listOf, Fits}
+use Rattle.theory.specs.Lists.{collect, joinLists, driveList, noComponent, outcomesOf, listOf, Fits}
 use Rattle.theory.specs.declared.Component.{Component}
 use Rattle.theory.specs.declared.Join.{Join}
 use Rattle.theory.specs.declared.Join.the-variants.{Series, Shared, Spare}
+use Rattle.theory.proofs.Counts.{once-length}
 use Rattle.theory.proofs.Monotone.{joined-mono}
-use Rattle.theory.proofs.Collect.{every-insert}
-use Rattle.theory.proofs.Lists.{weights-collect}
+use Rattle.theory.proofs.Collect.{every-collect, weights-collect}
 use Rattle.theory.proofs.Every.{every-map, every-append, every-image, every-getD}
-use Rattle.theory.proofs.Structure.{once-length, one-tree}
+use Rattle.theory.proofs.Structure.{one-tree}
 use Rattle.theory.proofs.Bridge.{drive-is-tree}
 use Rattle.theory.proofs.Totals.{weights-pairs, thousands}
 
@@ -39,12 +39,6 @@ joined-upTo a b op {f} {g} p q = record {
 pairs-upTo : (a b : ℕ) (op : Join) {fs gs : List Focal} → Every (UpTo a) fs → Every (UpTo b) gs → Every (UpTo (a + b)) (pairs op fs gs)
 pairs-upTo a b op Every.none q = Every.none
 pairs-upTo a b op (Every.more {x = f} p r) q = every-append (every-image (joinedFocal op f) (λ g. joined-upTo a b op p) q) (pairs-upTo a b op r q)
-
--- what speaks only of the interval stays true of each
-every-collect : (P : Focal → Type 0) → ((f g : Focal) → P f → P g → P (merged f g))
-    → {fs : List Focal} → Every P fs → Every P (collect fs)
-every-collect P m Every.none = Every.none
-every-collect P m (Every.more {x = f} p r) = every-insert P m f p (every-collect P m r)
 
 fits-collect : {m : ℕ} {l : List Focal} → Fits m l → Fits m (collect l)
 fits-collect {m} {l} p = record {

@@ -1,13 +1,14 @@
 -- What is proved of the definitions.
 pub mod Sums
 pub mod Every
+pub mod Counts
 pub mod Order
 pub mod Monotone
 pub mod Collect
 pub mod Steps
 pub mod Lists
-pub mod Bridge
 pub mod Structure
+pub mod Bridge
 pub mod Walk
 pub mod Totals
 pub mod Fits

@@ -1,17 +1,14 @@
--- What code that keeps a list in order by putting in one interval at a time needs. Assumes nothing.
-use Prim.Native.Nat.{ℕ, suc, _≤_, compare, Ordering, Ordering·lt, Ordering·eq, Ordering·gt}
+-- Where a new interval goes, and lists that are built by one insertion after the other. Assumes nothing.
+use Prim.Native.Nat.{suc, _≤_, compare, Ordering, Ordering·lt, Ordering·eq, Ordering·gt}
 use mathlib.Core.Path.{_≡_, refl, sym, ap, ap₂, _∙_}
 use mathlib.Core.List.{List, [], _∷_, _++_}
-use native.Mathlib.Nat.{mul-one, add-assoc, add-comm}
+use native.Mathlib.Nat.{add-assoc, add-comm}
 use native.Mathlib.Omega.{arith}
 use lib.ListN.{length}
 use Rattle.theory.specs.Sums.{Every}
-use Rattle.theory.specs.Focal.{Focal, weights}
-use Rattle.theory.specs.Choices.{belief, plausibility}
+use Rattle.theory.specs.Focal.{Focal}
 use Rattle.theory.specs.Lists.{lexically, order, Before, InOrder, merged, insertedAt, inserted, collect, insertAll}
-use Rattle.theory.proofs.Sums.{sum-ext}
 use Rattle.theory.proofs.Order.{Placed, placed, before-trans, before-same, order-before, order-after, order-same}
-use Rattle.theory.proofs.Collect.{weigh, weigh-collect, belief-weigh, plausibility-weigh}
 
 -- where a new interval goes
 pub insert-skip : (f : Focal) {fs : List Focal} → Every (λ g. Before g f) fs → (gs : List Focal) → inserted f (fs ++ gs) ≡ fs ++ inserted f gs
@@ -113,17 +110,3 @@ length-insert f (g ∷ gs) = go (order f g) (length-insert f gs)
 pub length-collect : (fs : List Focal) → length (collect fs) ≤ length fs
 length-collect [] = omega arith
 length-collect (f ∷ fs) = omega (arith, length-insert f (collect fs), length-collect fs)
-
--- the shares read from the drive's list
-pub belief-collect : (d : ℕ) (fs : List Focal) → belief d (collect fs) ≡ belief d fs
-belief-collect d fs = belief-weigh d (collect fs) ∙ (weigh-collect _ fs ∙ sym (belief-weigh d fs))
-
-pub plausibility-collect : (d : ℕ) (fs : List Focal) → plausibility d (collect fs) ≡ plausibility d fs
-plausibility-collect d fs = plausibility-weigh d (collect fs) ∙ (weigh-collect _ fs ∙ sym (plausibility-weigh d fs))
-
--- the weights of a list add up to the product of the totals under it
-pub weights-weigh : (fs : List Focal) → weights fs ≡ weigh (λ a b. 1) fs
-weights-weigh fs = sum-ext (λ f. sym (mul-one (f .weight))) fs
-
-pub weights-collect : (fs : List Focal) → weights (collect fs) ≡ weights fs
-weights-collect fs = weights-weigh (collect fs) ∙ (weigh-collect _ fs ∙ sym (weights-weigh fs))

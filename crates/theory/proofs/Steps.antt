@@ -3,15 +3,13 @@ use Prim.Native.Nat.{ℕ, _*_}
 use mathlib.Core.Path.{_≡_, refl, sym, ap, _∙_}
 use mathlib.Core.List.{List, [], _∷_, map}
 use native.Mathlib.Nat.{mul-assoc, mul-pos}
-use lib.ListN.{getD}
 use Rattle.theory.specs.Sums.{Every}
 use Rattle.theory.specs.Focal.{Focal, masses, Positive, AllPositive}
 use Rattle.theory.specs.Joins.{joined, joinedFocal, pairs}
 use Rattle.theory.specs.declared.Entry.{Entry}
 use Rattle.theory.specs.declared.Entry.the-variants.{Component as component, Join as join}
-use Rattle.theory.specs.Structure.{step, run, Φ, Tree, leaf, node, trees}
+use Rattle.theory.specs.Structure.{step, run, Tree, leaf, node}
 use Rattle.theory.specs.Lists.{collect, noComponent, outcomesOf, listOf}
-use Rattle.theory.specs.Division.{speeds}
 use Rattle.theory.specs.declared.Component.{Component}
 use Rattle.theory.specs.declared.Join.{Join}
 use Rattle.theory.proofs.Sums.{sum-ext, sum-scale, sum-map, sum-forEach}
@@ -65,14 +63,3 @@ module _ {A B : Type 0} (h : A → B) (la : ℕ → A) (ba : Join → A → A �
   pub run-map : (es : List Entry) (stack : List A) → map h (run la ba es stack) ≡ run lb bb es (map h stack)
   run-map [] stack = refl
   run-map (e ∷ es) stack = run-map es (step la ba e stack) ∙ ap (run lb bb es) (step-map e stack)
-
--- the speed of a sub-structure
-abbrev pub speedOf : List ℕ → Tree → ℕ
-speedOf speeds (leaf i) = getD speeds i 0
-speedOf speeds (node op l r) = joined op (speedOf speeds l) (speedOf speeds r)
-
--- The structure function is the speed of the one tree that is left.
-pub Φ-tree : (es : List Entry) (t : Tree) → trees es ≡ t ∷ [] → (v : List ℕ) → Φ es v ≡ speedOf v t
-Φ-tree es t e v =
-    ap (λ (p : List ℕ). getD p 0 0) (sym (run-map (speedOf v) leaf node (λ i. getD v i 0) joined (λ i. refl) (λ op x y. refl) es []))
-    ∙ ap (λ (p : List Tree). getD (map (speedOf v) p) 0 0) e

@@ -17,7 +17,7 @@ use Rattle.theory.specs.declared.Component.{Component}
 use Rattle.theory.specs.declared.Join.{Join}
 use Rattle.theory.proofs.Sums.{sum-ext, sum-map, sum-scale, sum-oneOfEach}
 use Rattle.theory.proofs.Steps.{weigh-pairs}
-use Rattle.theory.proofs.Lists.{weights-collect, weights-weigh}
+use Rattle.theory.proofs.Collect.{weights-collect, weights-weigh}
 
 -- the weights of a join's list multiply
 pub weights-pairs : (op : Join) (fs gs : List Focal) → weights (pairs op fs gs) ≡ weights fs * weights gs

@@ -13,9 +13,20 @@ pub record Focal : Type 0 where
   pub high : ℕ
   pub weight : ℕ
 
+-- the interval from `low` to `high` with its weight; past the end of a list there is none
+abbrev pub focal : ℕ → ℕ → ℕ → Focal
+focal low high weight = record { low = low; high = high; weight = weight }
+
+abbrev pub noFocal : Focal
+noFocal = focal 0 0 0
+
+-- the speed s lies inside the interval
+abbrev pub Inside : Focal → ℕ → Type 0
+Inside f s = (f .low ≤ s) × (s ≤ f .high)
+
 -- the interval at place i of a component
 abbrev pub focalAt : Component → ℕ → Focal
-focalAt c i = record { low = getD (c .lows) i 0; high = getD (c .highs) i 0; weight = getD (c .weights) i 0 }
+focalAt c i = focal (getD (c .lows) i 0) (getD (c .highs) i 0) (getD (c .weights) i 0)
 
 -- what a sheet lists of a component: its intervals in use
 abbrev pub listed : Component → List Focal

@@ -2,7 +2,7 @@
 use Prim.Native.Nat.{ℕ, _+_, _*_, min, max}
 use mathlib.Core.List.{List, map}
 use Rattle.theory.specs.Sums.{forEach}
-use Rattle.theory.specs.Focal.{Focal}
+use Rattle.theory.specs.Focal.{Focal, focal}
 use Rattle.theory.specs.declared.Join.{Join}
 use Rattle.theory.specs.declared.Join.the-variants.{Series, Shared, Spare}
 
@@ -15,8 +15,7 @@ joined Spare x y = max x y
 -- Two intervals joined: lows and highs separately, weights multiplied. How two weights are multiplied is a parameter.
 module _ (times : ℕ → ℕ → ℕ) where
   abbrev pub joinedBy : Join → Focal → Focal → Focal
-  joinedBy op f g =
-      record { low = joined op (f .low) (g .low); high = joined op (f .high) (g .high); weight = times (f .weight) (g .weight) }
+  joinedBy op f g = focal (joined op (f .low) (g .low)) (joined op (f .high) (g .high)) (times (f .weight) (g .weight))
 
   -- every interval of one list with every interval of the other
   abbrev pub pairsBy : Join → List Focal → List Focal → List Focal

@@ -6,7 +6,7 @@ use mathlib.Core.List.{List, [], _∷_}
 use lib.ListN.{getD}
 use Rattle.theory.specs.Sums.{Every}
 use Rattle.theory.specs.Limits.{topSpeed, mostTotal}
-use Rattle.theory.specs.Focal.{Focal, masses, weights, UpTo}
+use Rattle.theory.specs.Focal.{Focal, focal, masses, weights, UpTo}
 use Rattle.theory.specs.Joins.{pairsBy, pairs}
 use Rattle.theory.specs.declared.Entry.{Entry}
 use Rattle.theory.specs.Structure.{Tree, leaf, node}
@@ -34,7 +34,7 @@ pub data InOrder : List Focal → Type 0 where
 
 -- the weight of f added to the equal interval g
 abbrev pub merged : Focal → Focal → Focal
-merged f g = record { low = g .low; high = g .high; weight = f .weight + g .weight }
+merged f g = focal (g .low) (g .high) (f .weight + g .weight)
 
 -- A list in order with one interval more: equal intervals become one, weights added. `rest` is f inserted behind g.
 abbrev pub insertedAt : Ordering → Focal → Focal → List Focal → List Focal → List Focal
