@@ -13,7 +13,7 @@ use Rattle.theory.specs.Focal.{Focal, weights}
 use Rattle.theory.specs.Lists.{InOrder, inserted, insertAll}
 use Rattle.theory.specs.Limits.{mostIntervals}
 use Rattle.theory.proofs.Sums.{sum-append}
-use Rattle.theory.proofs.Collect.{order-insert}
+use Rattle.theory.proofs.Collect.{weights-insert, order-insert}
 use Rattle.theory.proofs.Lists.{length-insert}
 use Rattle.records.specs.declared.Insertion.{Insertion}
 use Rattle.records.specs.Records.{records, Under, speedLimit}
@@ -21,7 +21,7 @@ use Rattle.records.specs.Store.{holding}
 use Rattle.records.specs.Insertion.{insertionOf, insertOrStay, Insertable}
 use Rattle.records.proofs.Store.{holding-over}
 use Rattle.joins.specs.Filling.{Filled, fill}
-use Rattle.joins.proofs.Holding.{Held, view, insertable, held-count, held-step, held-stop, insert-weights, insert-under}
+use Rattle.joins.proofs.Holding.{Held, view, insertable, held-count, held-step, held-stop, insert-under}
 
 -- ---- a fill goes on, or it stops
 
@@ -69,7 +69,7 @@ grown l (p ∷ ps) =
     record {
       order = λ a. k .order (order-insert p a);
       under = λ u v. k .under (insert-under p (every-head v) u) (every-tail v);
-      sum = omega (arith, k .sum, insert-weights p l);
+      sum = omega (arith, k .sum, weights-insert p l);
       longer = omega (arith, k .longer, length-insert p l);
       room = λ q. k .room h;
       count = k .count;
@@ -121,7 +121,7 @@ module _ {out₀ out : List ℕ} {m : ℕ} {p : Focal} {rest : List Focal} {g : 
     filling-step h = record {
       acc = inserted p (f .acc);
       held = held-step (f .held) u fits-now q ensures h;
-      fits = omega (arith, f .fits, insert-weights p (f .acc));
+      fits = omega (arith, f .fits, weights-insert p (f .acc));
       goal = sym (fill-goes (f .acc) p rest (omega (arith, count))) ∙ f .goal;
     }
 

@@ -2,15 +2,14 @@
 use mathlib.Core.Path.{_≡_, sym, ap, _∙_}
 use mathlib.Core.List.{List}
 use Prim.Native.Nat.{ℕ, _+_, _*_, _^_, _≤_, _<_}
-use native.Mathlib.Nat.{mul-one}
 use native.Mathlib.Omega.{arith}
 use lib.ListN.{length, drop}
 use Rattle.theory.specs.Sums.{Every}
 use Rattle.theory.specs.Focal.{Focal, weights}
 use Rattle.theory.specs.Lists.{InOrder, inserted}
 use Rattle.theory.specs.Limits.{mostIntervals, listBytes}
-use Rattle.theory.proofs.Collect.{weigh-insert, every-insert, order-insert}
-use Rattle.theory.proofs.Lists.{length-insert, weights-weigh}
+use Rattle.theory.proofs.Collect.{weights-insert, every-insert, order-insert}
+use Rattle.theory.proofs.Lists.{length-insert}
 use Rattle.numbers.specs.Numbers.{Bytes}
 use Rattle.records.specs.declared.Insertion.{Insertion}
 use Rattle.records.specs.Records.{records, Under, speedLimit}
@@ -21,10 +20,6 @@ use Rattle.records.proofs.Store.{length-holding, holding-over}
 use Rattle.records.proofs.Inserting.{stay-fits, stay-full}
 
 -- ---- one interval more
-
-pub insert-weights : (f : Focal) (l : List Focal) → weights (inserted f l) ≡ f .weight + weights l
-insert-weights f l =
-    weights-weigh (inserted f l) ∙ weigh-insert (λ a b. 1) f l ∙ rw (mul-one, ← weights-weigh l)
 
 pub insert-under : (f : Focal) {l : List Focal} → Under speedLimit f → Every (Under speedLimit) l → Every (Under speedLimit) (inserted f l)
 insert-under f h u = every-insert (Under speedLimit) (λ g k p q. q) f h u
@@ -83,7 +78,7 @@ module _ {out₀ out : List ℕ} {m : ℕ} {l : List Focal} (h : Held out₀ out
           len = h .len;
           order = order-insert p (h .order);
           under = insert-under p u (h .under);
-          sum = omega (arith, insert-weights p l);
+          sum = omega (arith, weights-insert p l);
         }
 
     pub held-stop : mostIntervals < r .count → e ≡ holding out₀ l

@@ -8,12 +8,12 @@ use native.Mathlib.Omega.{arith}
 use lib.ListN.{length, drop}
 use lib.Seq.{drop-cons}
 use Rattle.theory.specs.Sums.{Every}
-use Rattle.theory.specs.Focal.{Focal, weights}
+use Rattle.theory.specs.Focal.{Focal, weights, noFocal}
 use Rattle.theory.specs.declared.Join.{Join}
 use Rattle.theory.specs.declared.Join.the-variants.{Series, Shared, Spare}
 use Rattle.theory.specs.Joins.{joined, joinedFocal, pairs}
 use Rattle.theory.proofs.Every.{every-image}
-use Rattle.records.specs.Records.{intervalAt, noFocal, Under, speedLimit}
+use Rattle.records.specs.Records.{intervalAt, Under, speedLimit}
 use Rattle.joins.specs.Joins.{operandLimit}
 
 joined-lt : (op : Join) (x y : ℕ) → x < operandLimit → y < operandLimit → joined op x y < speedLimit

@@ -12,14 +12,14 @@ use lib.ListN.{length, take, drop, take-append-drop, drop-of-length-le}
 use lib.Seq.{drop-cons}
 use borrow.Author.Tests.{lt-ltb, le-ltb, eq-eqb, ne-eqb}
 use Rattle.theory.specs.Sums.{Every}
-use Rattle.theory.specs.Focal.{Focal}
+use Rattle.theory.specs.Focal.{Focal, noFocal}
 use Rattle.theory.specs.Lists.{order, Before, InOrder, inserted, merged}
 use Rattle.theory.proofs.Order.{Placed, placed, before-trans, order-before}
 use Rattle.theory.proofs.Every.{index-of-every}
 use Rattle.theory.proofs.Lists.{insert-skip, insert-here, insert-same}
 use Rattle.numbers.specs.Numbers.{Bytes}
 use Rattle.numbers.proofs.Numbers.{bytes-drop}
-use Rattle.records.specs.Records.{keyOf, keyed, withWeight, intervalAt, recordAt, records, noFocal, speedLimit}
+use Rattle.records.specs.Records.{keyOf, keyed, withWeight, intervalAt, recordAt, records, speedLimit}
 use Rattle.records.specs.Insertion.{isBefore, place}
 use Rattle.records.proofs.Records.{length-records, records-at, head-under}
 

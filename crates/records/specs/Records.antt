@@ -3,17 +3,9 @@
 use Prim.Native.Nat.{ℕ, zero, suc, _+_, _*_, _/_, _%_, _<_}
 use mathlib.Core.List.{List, [], _∷_, _++_}
 use lib.ListN.{drop, getD}
-use Rattle.theory.specs.Focal.{Focal}
+use Rattle.theory.specs.Focal.{Focal, focal, noFocal}
 use Rattle.theory.specs.Limits.{recordBytes}
 use Rattle.numbers.specs.Numbers.{bigEndian, numberAt}
-
--- an interval from low to high with its weight
-abbrev pub focal : ℕ → ℕ → ℕ → Focal
-focal low high weight = record { low = low; high = high; weight = weight }
-
--- past the end of a list there is none
-abbrev pub noFocal : Focal
-noFocal = focal 0 0 0
 
 -- interval i of a list
 abbrev pub intervalAt : List Focal → ℕ → Focal

@@ -2,8 +2,9 @@
 // significant byte first. Low and high as one number are a record's key.
 
 ghost use mathlib.Core.Path.{_≡_};
+ghost use mathlib.Core.Bool.{cond};
 ghost use Prim.Native.Nat.{_+_, _*_, _-_, _^_, _≤_, _<_};
-ghost use lib.Dec.{isEq};
+ghost use lib.Dec.{leb, isEq};
 ghost use lib.ListN.{length};
 ghost use Rattle.theory.specs.Focal.{weights};
 ghost use Rattle.theory.specs.Lists.{order, InOrder};
@@ -173,6 +174,13 @@ pub fn insert(s: &mut [u8], n: usize, key: u64, weight: u64, hint: usize) -> Ins
     }
 }
 
+// What an interval's weight counts at a demand, by one of its ends.
+fn counted(end: u64, weight: u64, demand: u64) -> u64
+    ensures { λ r. ⌜ r ≡ cond (leb demand end) weight 0 ⌝ }
+{
+    if demand <= end { weight } else { 0 }
+}
+
 // Belief and plausibility of the first n records at a demand.
 pub fn shares_at(s: &[u8], n: usize, demand: u64) -> Shares
     requires { ⌜ recordBytes * n ≤ length (now s) ⌝ }
@@ -183,14 +191,10 @@ pub fn shares_at(s: &[u8], n: usize, demand: u64) -> Shares
     let mut plausibility: u64 = 0;
     let mut i = 0;
     while i < n {
-        let k = key_at(s, i);
-        let w = weight_at(s, i);
-        if demand <= k / SPEEDS {
-            belief += w;
-        }
-        if demand <= k % SPEEDS {
-            plausibility += w;
-        }
+        let key = key_at(s, i);
+        let weight = weight_at(s, i);
+        belief += counted(key / SPEEDS, weight, demand);
+        plausibility += counted(key % SPEEDS, weight, demand);
         i += 1;
     }
     Shares {

@@ -7,12 +7,12 @@ use native.Mathlib.Nat.{zero-add}
 use native.Mathlib.Omega.{arith}
 use lib.ListN.{length, drop, drop-of-length-le}
 use Rattle.theory.specs.Sums.{Every}
-use Rattle.theory.specs.Focal.{Focal, weights}
+use Rattle.theory.specs.Focal.{Focal, weights, noFocal}
 use Rattle.theory.specs.Joins.{joinedFocal, pairs}
 use Rattle.theory.specs.Lists.{InOrder}
 use Rattle.theory.proofs.Every.{index-of-every}
 use Rattle.theory.proofs.Totals.{weights-pairs}
-use Rattle.records.specs.Records.{keyOf, keyed, recordAt, records, intervalAt, noFocal, Under, speedLimit}
+use Rattle.records.specs.Records.{keyOf, keyed, recordAt, records, intervalAt, Under, speedLimit}
 use Rattle.records.specs.Store.{holding}
 use Rattle.records.specs.Insertion.{Insertable}
 use Rattle.records.proofs.Records.{length-records, records-at, from-key}

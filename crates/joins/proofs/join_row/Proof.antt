@@ -5,10 +5,10 @@ use mathlib.Core.List.{List, [], _∷_, map}
 use Prim.Native.Nat.{ℕ, _≤_, _<_, _+_, _*_, _-_, _/_, _%_, _^_}
 use native.Mathlib.Omega.{arith}
 use lib.ListN.{length, drop, drop-of-length-le}
-use Rattle.theory.specs.Focal.{Focal, weights}
+use Rattle.theory.specs.Focal.{Focal, weights, noFocal}
 use Rattle.theory.specs.Joins.{joined, joinedFocal}
 use Rattle.theory.proofs.Every.{index-of-every}
-use Rattle.records.specs.Records.{keyOf, keyed, recordAt, records, intervalAt, noFocal, Under, speedLimit}
+use Rattle.records.specs.Records.{keyOf, keyed, recordAt, records, intervalAt, Under, speedLimit}
 use Rattle.records.proofs.Records.{length-records, records-at, from-key}
 use Rattle.joins.specs.Filling.{Filled, fill}
 use Rattle.joins.specs.Joins.{operandLimit}

@@ -7,9 +7,10 @@ use borrow.Author.Needs.{needs}
 use Rattle.theory.specs.Focal.{Focal, focalAt, weights}
 use Rattle.theory.specs.declared.Component.{Component}
 use Rattle.theory.specs.Lists.{InOrder, inserted}
+use Rattle.theory.proofs.Collect.{weights-insert}
 use Rattle.records.specs.Records.{records, Under, speedLimit, keyOf, keyed}
 use Rattle.records.proofs.Records.{from-key}
-use Rattle.joins.proofs.Holding.{Held, held, length-now, insertable, held-count, held-step, insert-weights}
+use Rattle.joins.proofs.Holding.{Held, held, length-now, insertable, held-count, held-step}
 use Rattle.joins.proofs.Listed.{collected, collected-next, collected-short}
 use Rattle.joins.proofs.put_listed.Statement.{statement}
 use Rattle.joins.proofs.put_listed.Tie as tie
@@ -83,7 +84,7 @@ loop-again c =
     let h : Held _ (i .before .loop .out) (i .before .loop .m) (sofar i) = i .before .loop .inv .1 .1 in (
       omega (arith, i .loop-test .taken),
       (
-        rw e (omega (arith, insert-weights (this i) (sofar i), light w, i .before .loop .inv)),
+        rw e (omega (arith, weights-insert (this i) (sofar i), light w, i .before .loop .inv)),
         rw e
             (held-step h (this-under w) (fits w) (given w) (n .insert .ensures)
             (rw (held-count h (this-under w) (fits w) (given w) (n .insert .ensures), ← e) (omega (arith, collected-short k (i .before .loop .i + 1), i .loop-test .taken, start i .pre)))),

@@ -1,7 +1,6 @@
 -- `records::shares_at` meets its contract. The invariant: the sums so far and those of what is left give the sums of all. Assumes nothing.
 use mathlib.Core.Path.{_≡_, sym, ap, _∙_}
 use mathlib.Core.Bool.{Bool, true, false, cond}
-use mathlib.Core.Logic.{⊎-elim}
 use mathlib.Core.List.{List, []}
 use Prim.Native.Nat.{ℕ, _≤_, _<_, _+_, _-_, _/_, _%_}
 use native.Mathlib.Omega.{arith}
@@ -9,16 +8,28 @@ use native.Mathlib.Numerals.{add-one}
 use lib.Dec.{leb}
 use lib.ListN.{length, drop, drop-of-length-le}
 use lib.Seq.{drop-cons}
-use borrow.Author.Tests.{le-leb, lt-leb}
-use Rattle.theory.specs.Sums.{sumBy}
-use Rattle.theory.specs.Focal.{Focal, weights}
-use Rattle.theory.specs.Choices.{belief, plausibility}
+use borrow.Author.Needs.{needs}
+use Rattle.theory.specs.Focal.{Focal, weights, noFocal}
+use Rattle.theory.specs.Choices.{weightWhere, belief, plausibility}
 use Rattle.theory.proofs.Every.{index-of-every}
 use Rattle.theory.proofs.Sums.{sum-le}
-use Rattle.records.specs.Records.{keyOf, recordAt, records, intervalAt, noFocal, Under, speedLimit}
+use Rattle.records.specs.Records.{keyOf, recordAt, records, intervalAt, Under, speedLimit}
 use Rattle.records.proofs.Records.{length-records, records-at, records-under}
 use Rattle.records.proofs.shares_at.Statement.{statement}
 use Rattle.records.proofs.shares_at.Tie as tie
+
+-- a sum of the weights that pass a test, one interval after the other, and never above the sum of all
+module _ (test : ℕ → ℕ → Bool) (l : List Focal) where
+  next : (i : ℕ) → i < length l → let f = intervalAt l i in
+      weightWhere test (drop i l) ≡ cond (test (f .low) (f .high)) (f .weight) 0 + weightWhere test (drop (i + 1) l)
+  next i h = ap (weightWhere test) (drop-cons l i noFocal h) ∙ rw (add-one i)
+
+  within : weightWhere test l ≤ weights l
+  within = sum-le (λ f. at-most (test (f .low) (f .high)) (f .weight)) l
+    where
+      at-most : (b : Bool) (w : ℕ) → cond b w 0 ≤ w
+      at-most true w = omega arith
+      at-most false w = omega arith
 
 abbrev Inv-loop : tie.InvT-loop
 Inv-loop s n demand belief₀ plausibility₀ i₀ b p i =
@@ -27,96 +38,55 @@ Inv-loop s n demand belief₀ plausibility₀ i₀ b p i =
 abbrev μ-loop : tie.MeasureT-loop
 μ-loop s n demand belief₀ plausibility₀ i₀ b p i = n - i
 
-abbrev start : tie.After-weight-at Inv-loop μ-loop → tie.Start Inv-loop μ-loop
-start c = c .before .before .before .before .before
+abbrev start : tie.In-loop Inv-loop μ-loop → tie.Start Inv-loop μ-loop
+start c = c .before .before .before
 
-abbrev place : tie.After-weight-at Inv-loop μ-loop → ℕ
-place c = c .before .before .before .loop .i
-
-abbrev list : tie.After-weight-at Inv-loop μ-loop → List Focal
+abbrev list : tie.In-loop Inv-loop μ-loop → List Focal
 list c = records (start c .args .n) (start c .args .s .now)
 
-abbrev this : tie.After-weight-at Inv-loop μ-loop → Focal
-this c = intervalAt (list c) (place c)
+abbrev this : tie.In-loop Inv-loop μ-loop → Focal
+this c = intervalAt (list c) (c .before .loop .i)
 
-there : (c : tie.After-weight-at Inv-loop μ-loop) → place c < length (list c)
-there c = omega (arith, length-records (start c .args .n) (start c .args .s .now), c .before .before .loop-test .taken)
+there : (c : tie.In-loop Inv-loop μ-loop) → c .before .loop .i < length (list c)
+there c = omega (arith, length-records (start c .args .n) (start c .args .s .now), c .loop-test .taken)
 
-same : (c : tie.After-weight-at Inv-loop μ-loop) → this c ≡ recordAt (start c .args .s .now) (place c)
-same c = records-at (start c .args .n) (place c) (start c .args .s .now) (c .before .before .loop-test .taken)
+same : (c : tie.In-loop Inv-loop μ-loop) → recordAt (start c .args .s .now) (c .before .loop .i) ≡ this c
+same c = sym (records-at (start c .args .n) (c .before .loop .i) (start c .args .s .now) (c .loop-test .taken))
 
-small : (c : tie.After-weight-at Inv-loop μ-loop) → Under speedLimit (this c)
-small c =
-    index-of-every noFocal (records-under (start c .args .n) (start c .args .s .now) (λ i. c .before .before .before .before .shared-slice-known .given i .fits)) (place c) (there c)
+-- what each end counts in this turn
+key-is : (c : tie.After-key-at Inv-loop μ-loop) → (c .key-at .result / speedLimit ≡ this (c .before) .low) × (c .key-at .result % speedLimit ≡ this (c .before) .high)
+key-is c =
+    let i = c .before in
+    let e : c .key-at .result ≡ keyOf (this i) = c .key-at .ensures ∙ ap keyOf (same i) in
+    let u : Under speedLimit (this i) =
+    index-of-every noFocal (records-under (start i .args .n) (start i .args .s .now) (λ k. i .before .before .shared-slice-known .given k .fits)) (i .before .loop .i) (there i) in
+    (omega (arith, e), omega (arith, e))
 
-low-is : (c : tie.After-weight-at Inv-loop μ-loop) → c .before .key-at .result / speedLimit ≡ this c .low
-low-is c = omega (arith, c .before .key-at .ensures ∙ ap keyOf (sym (same c)), small c)
+weight-is : (c : tie.After-weight-at Inv-loop μ-loop) → c .weight-at .result ≡ this (c .before .before) .weight
+weight-is c = c .weight-at .ensures ∙ ap (λ (f : Focal). f .weight) (same (c .before .before))
 
-high-is : (c : tie.After-weight-at Inv-loop μ-loop) → c .before .key-at .result % speedLimit ≡ this c .high
-high-is c = omega (arith, c .before .key-at .ensures ∙ ap keyOf (sym (same c)), small c)
+low-counts : (c : tie.After-counted Inv-loop μ-loop) → let i = c .before .before .before in c .counted .result ≡ cond (leb (start i .args .demand) (this i .low)) (this i .weight) 0
+low-counts c = let w = c .before in c .counted .ensures ∙ (λ t. cond (leb (start (w .before .before) .args .demand) (key-is (w .before) .0 t)) (weight-is w t) 0)
 
-weight-is : (c : tie.After-weight-at Inv-loop μ-loop) → c .weight-at .result ≡ this c .weight
-weight-is c = c .weight-at .ensures ∙ ap (λ (f : Focal). f .weight) (sym (same c))
+high-counts : (c : tie.After-counted2 Inv-loop μ-loop)
+    → let i = c .before .before .before .before in c .counted2 .result ≡ cond (leb (start i .args .demand) (this i .high)) (this i .weight) 0
+high-counts c = let w = c .before .before in c .counted2 .ensures ∙ (λ t. cond (leb (start (w .before .before) .args .demand) (key-is (w .before) .1 t)) (weight-is w t) 0)
 
-at-most : (b : Bool) (w : ℕ) → cond b w 0 ≤ w
-at-most true w = omega arith
-at-most false w = omega arith
-
--- the sum of the weights whose `end` is at least the demand, in this turn
-module _ (c : tie.After-weight-at Inv-loop μ-loop) (end : Focal → ℕ) where
-  abbrev counts : Focal → ℕ
-  counts f = cond (leb (start c .args .demand) (end f)) (f .weight) 0
-
-  next : sumBy counts (drop (place c) (list c)) ≡ counts (this c) + sumBy counts (drop (place c + 1) (list c))
-  next = ap (sumBy counts) (drop-cons (list c) (place c) noFocal (there c)) ∙ rw (add-one (place c))
-
-  passed : start c .args .demand ≤ end (this c) → counts (this c) ≡ c .weight-at .result
-  passed h = rw (le-leb (start c .args .demand) (end (this c)) h) (sym (weight-is c))
-
-  failed : end (this c) < start c .args .demand → counts (this c) ≡ 0
-  failed h = rw (lt-leb (start c .args .demand) (end (this c)) h)
-
-  within : sumBy counts (list c) ≤ weights (list c)
-  within = sum-le (λ f. at-most (leb (start c .args .demand) (end f)) (f .weight)) (list c)
-
-loop-holds : tie.Need-loop-holds Inv-loop μ-loop
-loop-holds c = (omega arith, (omega arith, omega arith))
-
-add-belief : tie.Need-add-belief Inv-loop μ-loop
-add-belief c =
-    let w = c .before in
-    let low : Focal → ℕ = λ f. f .low in
-    omega (arith, w .before .before .before .loop .inv .1 .0, next w low, passed w low (omega (arith, c .if1 .taken, low-is w)), within w low, start w .pre)
-
-add-plausibility : tie.Need-add-plausibility Inv-loop μ-loop
-add-plausibility c =
-    let w = c .before .before in
-    let high : Focal → ℕ = λ f. f .high in
-    omega (arith, w .before .before .before .loop .inv .1 .1, next w high, passed w high (omega (arith, c .if2 .taken, high-is w)), within w high, start w .pre)
-
-add-i : tie.Need-add-i Inv-loop μ-loop
-add-i c = omega (arith, c .before .before .before .before .loop-test .taken)
-
-loop-less : tie.Need-loop-less Inv-loop μ-loop
-loop-less c = omega (arith, c .before .before .before .before .loop-test .taken)
-
-belief-is : (c : tie.Joined1 Inv-loop μ-loop) → let w = c .before in c .if1 .belief + belief (start w .args .demand) (drop (place w + 1) (list w)) ≡ belief (start w .args .demand) (list w)
-belief-is c =
-    let w = c .before in
-    let low : Focal → ℕ = λ f. f .low in
-    ⊎-elim (λ q. omega (arith, q .1, w .before .before .before .loop .inv .1 .0, next w low, passed w low (omega (arith, q .0 .taken, low-is w))))
-    (λ q. omega (arith, q .1, w .before .before .before .loop .inv .1 .0, next w low, failed w low (omega (arith, q .0 .left, low-is w)))) (c .if1 .came)
-
-plausibility-is : (c : tie.Joined2 Inv-loop μ-loop)
-    → let w = c .before .before in c .if2 .plausibility + plausibility (start w .args .demand) (drop (place w + 1) (list w)) ≡ plausibility (start w .args .demand) (list w)
-plausibility-is c =
-    let w = c .before .before in
-    let high : Focal → ℕ = λ f. f .high in
-    ⊎-elim (λ q. omega (arith, q .1, w .before .before .before .loop .inv .1 .1, next w high, passed w high (omega (arith, q .0 .taken, high-is w))))
-    (λ q. omega (arith, q .1, w .before .before .before .loop .inv .1 .1, next w high, failed w high (omega (arith, q .0 .left, high-is w)))) (c .if2 .came)
+-- the sums in this turn
+sums : (c : tie.In-loop Inv-loop μ-loop) (test : ℕ → ℕ → Bool) → let i = c .before .loop .i in
+    (weightWhere test (drop i (list c)) ≡ cond (test (this c .low) (this c .high)) (this c .weight) 0 + weightWhere test (drop (i + 1) (list c)))
+    × (weightWhere test (list c) ≤ weights (list c))
+sums c test = (next test (list c) (c .before .loop .i) (there c), within test (list c))
 
 loop-again : tie.Need-loop-again Inv-loop μ-loop
-loop-again c = (omega (arith, c .before .before .before .before .loop-test .taken), (belief-is (c .before), plausibility-is c))
+loop-again c =
+    let i = c .before .before .before .before in (
+      omega (arith, i .loop-test .taken),
+      (
+        omega (arith, i .before .loop .inv .1 .0, sums i (λ low high. leb (start i .args .demand) low), low-counts (c .before)),
+        omega (arith, i .before .loop .inv .1 .1, sums i (λ low high. leb (start i .args .demand) high), high-counts c),
+      ),
+    )
 
 returns : tie.Need-returns Inv-loop μ-loop
 returns c =
@@ -133,12 +103,14 @@ shares-at-spec =
     (tie.spec
     Inv-loop
     μ-loop
-    loop-holds
+    (λ c. (omega arith, (omega arith, omega arith)))
     (λ c κs. omega arith)
     (λ c κs. omega arith)
-    add-belief
-    add-plausibility
-    add-i
-    loop-less
+    (λ c κs. search needs)
+    (λ c. let i = c .before .before .before in omega (arith, i .before .loop .inv .1 .0, sums i (λ low high. leb (start i .args .demand) low), low-counts c, start i .pre))
+    (λ c κs. search needs)
+    (λ c. let i = c .before .before .before .before in omega (arith, i .before .loop .inv .1 .1, sums i (λ low high. leb (start i .args .demand) high), high-counts c, start i .pre))
+    (λ c. omega (arith, c .before .before .before .before .loop-test .taken))
+    (λ c. omega (arith, c .before .before .before .before .loop-test .taken))
     loop-again
     returns)
