@@ -1,13 +1,13 @@
 -- "Joins": the join of two lists that stand in a store, its list in the free rest. Assumes nothing.
 use Prim.Native.Nat.{ℕ, _+_, _*_, _^_, _≤_, _<_}
 use mathlib.Core.Bool.{cond}
-use mathlib.Core.List.{List, []}
+use mathlib.Core.List.{List, [], map}
 use lib.Dec.{leb, ltb}
 use lib.ListN.{length}
 use Rattle.theory.specs.Sums.{Every}
 use Rattle.theory.specs.Focal.{Focal, weights}
 use Rattle.theory.specs.declared.Join.{Join}
-use Rattle.theory.specs.Joins.{pairs}
+use Rattle.theory.specs.Joins.{joinedFocal, pairs}
 use Rattle.theory.specs.Lists.{collect}
 use Rattle.theory.specs.Limits.{mostIntervals, recordBytes, listBytes}
 use Rattle.records.specs.Records.{Under}
@@ -36,6 +36,10 @@ numberOfJoin l = cond (ltb mostIntervals (length l)) 14 0
 -- the length that a join answers whose list is l
 abbrev pub lengthOfJoin : List Focal → ℕ
 lengthOfJoin l = cond (ltb mostIntervals (length l)) 0 (length l)
+
+-- one interval joined with each of a list
+abbrev pub rowOf : Join → Focal → List Focal → List Focal
+rowOf op f gs = map (joinedFocal op f) gs
 
 -- the pairs of two lists of a store: na records from byte `left` on, and nb from byte `right` on
 abbrev pub pairsIn : Join → List ℕ → ℕ → ℕ → ℕ → ℕ → List Focal

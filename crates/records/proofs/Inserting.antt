@@ -14,7 +14,7 @@ use Rattle.theory.specs.Lists.{order, inserted, merged}
 use Rattle.theory.specs.Limits.{mostIntervals}
 use Rattle.records.specs.declared.Insertion.{Insertion}
 use Rattle.records.specs.Records.{bytesOf, encode, recordAt, records, intervalAt}
-use Rattle.records.specs.Store.{replaced, movedUp, holding}
+use Rattle.records.specs.Store.{withRecord, movedUp, holding}
 use Rattle.records.specs.Insertion.{place, insertionOf, insertOrStay}
 use Rattle.numbers.specs.Numbers.{Bytes}
 use Rattle.records.proofs.Records.{length-encode, length-records, records-at, encode-append, holds, take-encode, drop-encode}
@@ -55,7 +55,7 @@ module _ (n : ℕ) (s : List ℕ) (b : Bytes s) (f : Focal) (p : ℕ) (pe : p �
   count-is m e = λ i. record { count = sym e i; place = pe i }
 
   pub insert-at : 12 * n ≤ length s → n ≤ mostIntervals → p < n → isEq (order (recordAt s p) f) ≡ true
-      → Inserted n s (replaced s (12 * p) 12 (bytesOf (merged f (recordAt s p)))) f (record { count = n; place = p })
+      → Inserted n s (withRecord s p (merged f (recordAt s p))) f (record { count = n; place = p })
   insert-at fit m h e =
       let l : List Focal = records n s in
       let hl : length l ≡ n = length-records n s in
@@ -93,7 +93,7 @@ module _ (n : ℕ) (s : List ℕ) (b : Bytes s) (f : Focal) (p : ℕ) (pe : p �
 
     pub insert-in : 12 * n + 12 ≤ length s → n < mostIntervals
         → (t : List ℕ) → t ≡ movedUp s (12 * p) (12 * n)
-        → Inserted n s (replaced t (12 * p) 12 (bytesOf f)) f (record { count = n + 1; place = p })
+        → Inserted n s (withRecord t p f) f (record { count = n + 1; place = p })
     insert-in fit m t te =
         let l : List Focal = records n s in
         let h : p ≤ n = within in

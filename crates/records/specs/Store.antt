@@ -4,11 +4,15 @@ use mathlib.Core.List.{List, _++_}
 use lib.ListN.{length, take, drop, replicate}
 use Rattle.theory.specs.Focal.{Focal}
 use Rattle.theory.specs.Limits.{recordBytes}
-use Rattle.records.specs.Records.{encode, records}
+use Rattle.records.specs.Records.{bytesOf, encode, records}
 
 -- s with the n bytes from `start` on replaced by others
 abbrev pub replaced : List ℕ → ℕ → ℕ → List ℕ → List ℕ
 replaced s start n others = take start s ++ (others ++ drop (start + n) s)
+
+-- s with record i written
+abbrev pub withRecord : List ℕ → ℕ → Focal → List ℕ
+withRecord s i f = replaced s (recordBytes * i) recordBytes (bytesOf f)
 
 -- s with the bytes from `from` up to `to` moved up by one record
 abbrev pub movedUp : List ℕ → ℕ → ℕ → List ℕ

@@ -9,8 +9,8 @@ ghost use lib.ListN.{length};
 ghost use Rattle.theory.specs.Focal.{weights};
 ghost use Rattle.theory.specs.Lists.{order, InOrder};
 ghost use Rattle.theory.specs.Limits.{recordBytes};
-ghost use Rattle.records.specs.Records.{bytesOf, recordAt, records, withWeight, keyOf, keyed};
-ghost use Rattle.records.specs.Store.{replaced, movedUp, movedToFront, zeroed, holding, listIn, settled};
+ghost use Rattle.records.specs.Records.{recordAt, records, withWeight, keyOf, keyed};
+ghost use Rattle.records.specs.Store.{withRecord, movedUp, movedToFront, zeroed, holding, listIn, settled};
 ghost use Rattle.records.specs.Insertion.{isBefore, place, insertionOf, insertOrStay, Insertable};
 ghost use Rattle.records.specs.Shares.{sharesOf};
 use theory::RECORD_BYTES;
@@ -49,7 +49,7 @@ pub fn weight_at(s: &[u8], i: usize) -> u64
 // Writes record i.
 fn write_record(s: &mut [u8], i: usize, key: u64, weight: u64)
     requires { ⌜ recordBytes * i + recordBytes ≤ length (now s) ⌝ }
-    ensures { λ _. ⌜ now (s .exit) ≡ replaced (now (s .entry)) (recordBytes * i) recordBytes (bytesOf (keyed key weight)) ⌝ }
+    ensures { λ _. ⌜ now (s .exit) ≡ withRecord (now (s .entry)) i (keyed key weight) ⌝ }
 {
     numbers::write_number(s, RECORD_BYTES * i + 4, 8, weight);
     numbers::write_number(s, RECORD_BYTES * i, 4, key);
@@ -58,7 +58,7 @@ fn write_record(s: &mut [u8], i: usize, key: u64, weight: u64)
 // Gives record i another weight.
 fn write_weight(s: &mut [u8], i: usize, weight: u64)
     requires { ⌜ recordBytes * i + recordBytes ≤ length (now s) ⌝ }
-    ensures { λ _. ⌜ now (s .exit) ≡ replaced (now (s .entry)) (recordBytes * i) recordBytes (bytesOf (withWeight (recordAt (now (s .entry)) i) weight)) ⌝ }
+    ensures { λ _. ⌜ now (s .exit) ≡ withRecord (now (s .entry)) i (withWeight (recordAt (now (s .entry)) i) weight) ⌝ }
 {
     numbers::write_number(s, RECORD_BYTES * i + 4, 8, weight);
 }

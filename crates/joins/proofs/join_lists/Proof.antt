@@ -1,14 +1,14 @@
 -- `joins::join_lists` meets its contract. The invariant: what is left of the pairs, filled into the list so far, gives the list that is
 -- wanted. Assumes nothing.
 use mathlib.Core.Path.{_≡_, refl, sym, ap, _∙_, subst}
-use mathlib.Core.List.{List, [], _++_, map}
+use mathlib.Core.List.{List, [], _++_}
 use Prim.Native.Nat.{_≤_, _<_, _+_, _*_, _-_}
 use native.Mathlib.Nat.{zero-add}
 use native.Mathlib.Omega.{arith}
 use lib.ListN.{length, drop, drop-of-length-le}
 use Rattle.theory.specs.Sums.{Every}
 use Rattle.theory.specs.Focal.{Focal, weights, noFocal}
-use Rattle.theory.specs.Joins.{joinedFocal, pairs}
+use Rattle.theory.specs.Joins.{pairs}
 use Rattle.theory.specs.Lists.{InOrder}
 use Rattle.theory.proofs.Every.{index-of-every}
 use Rattle.theory.proofs.Totals.{weights-pairs}
@@ -17,7 +17,7 @@ use Rattle.records.specs.Store.{holding}
 use Rattle.records.specs.Insertion.{Insertable}
 use Rattle.records.proofs.Records.{length-records, records-at, from-key}
 use Rattle.joins.specs.Filling.{Filled, fill}
-use Rattle.joins.specs.Joins.{operandLimit}
+use Rattle.joins.specs.Joins.{rowOf, operandLimit}
 use Rattle.joins.proofs.Holding.{held, length-now}
 use Rattle.joins.proofs.Filling.{Filling, Done, row-insertable, filling-row, filling-row-stop, filling-done}
 use Rattle.joins.proofs.Pairs.{row-under, row-weights, pairs-next}
@@ -54,7 +54,7 @@ small : (c : tie.In-loop Inv-loop μ-loop) → Under operandLimit (own c)
 small c = index-of-every noFocal (start c .pre .1 .0 .0) (c .before .loop .i) (there c)
 
 abbrev this : tie.In-loop Inv-loop μ-loop → List Focal
-this c = map (joinedFocal (start c .args .op) (own c)) (right (start c))
+this c = rowOf (start c .args .op) (own c) (right (start c))
 
 abbrev later : tie.In-loop Inv-loop μ-loop → List Focal
 later c = pairs (start c .args .op) (drop (c .before .loop .i + 1) (left (start c))) (right (start c))
@@ -103,8 +103,8 @@ row c =
     let w = c .before .before in
     let i = w .before .before in
     let l = i .before .loop in
-    let e : map (joinedFocal (start i .args .op) (keyed (w .before .key-at .result) (w .weight-at .result))) (right (start i)) ≡ this i =
-    ap (λ (x : Focal). map (joinedFocal (start i .args .op) x) (right (start i))) (handed w) in (
+    let e : rowOf (start i .args .op) (keyed (w .before .key-at .result) (w .weight-at .result)) (right (start i)) ≡ this i =
+    ap (λ (x : Focal). rowOf (start i .args .op) x (right (start i))) (handed w) in (
       c .join-row .ensures .0 ∙ ap (λ (x : List Focal). fill (records (l .m) (l .out)) x .count) e,
       c .join-row .ensures .1 ∙ ap (λ (x : List Focal). holding (l .out) (fill (records (l .m) (l .out)) x .list)) e,
     )

@@ -1,7 +1,7 @@
 -- `joins::join_row` meets its contract. The invariant: what is left of the row, filled into the list so far, gives the list that is
 -- wanted. Assumes nothing.
 use mathlib.Core.Path.{_≡_, refl, sym, ap, _∙_, subst}
-use mathlib.Core.List.{List, [], _∷_, map}
+use mathlib.Core.List.{List, [], _∷_}
 use Prim.Native.Nat.{ℕ, _≤_, _<_, _+_, _*_, _-_, _/_, _%_, _^_}
 use native.Mathlib.Omega.{arith}
 use lib.ListN.{length, drop, drop-of-length-le}
@@ -11,7 +11,7 @@ use Rattle.theory.proofs.Every.{index-of-every}
 use Rattle.records.specs.Records.{keyOf, keyed, recordAt, records, intervalAt, Under, speedLimit}
 use Rattle.records.proofs.Records.{length-records, records-at, from-key}
 use Rattle.joins.specs.Filling.{Filled, fill}
-use Rattle.joins.specs.Joins.{operandLimit}
+use Rattle.joins.specs.Joins.{rowOf, operandLimit}
 use Rattle.joins.proofs.Holding.{held, length-now, insertable}
 use Rattle.joins.proofs.Filling.{Filling, Done, fits-now, filling-step, filling-stop, filling-done}
 use Rattle.joins.proofs.Pairs.{joined-under, row-weights, row-next}
@@ -20,7 +20,7 @@ use Rattle.joins.proofs.join_row.Tie as tie
 
 abbrev Inv-loop : tie.InvT-loop
 Inv-loop op key weight b nb out₀ n low high m₀ hint₀ j₀ out m hint j =
-    (j ≤ nb) × Filling out₀ out m (map (joinedFocal op (keyed key weight)) (drop j (records nb b))) (fill (records n out₀) (map (joinedFocal op (keyed key weight)) (records nb b)))
+    (j ≤ nb) × Filling out₀ out m (rowOf op (keyed key weight) (drop j (records nb b))) (fill (records n out₀) (rowOf op (keyed key weight) (records nb b)))
 
 abbrev μ-loop : tie.MeasureT-loop
 μ-loop op key weight b nb out₀ n low high m₀ hint₀ j₀ out m hint j = nb - j
@@ -42,7 +42,7 @@ abbrev pair : tie.In-loop Inv-loop μ-loop → Focal
 pair c = joinedFocal (start c .args .op) (own (start c)) (other c)
 
 abbrev wanted : tie.Start Inv-loop μ-loop → Filled
-wanted c = fill (records (c .args .n) (c .args .out .now)) (map (joinedFocal (c .args .op) (own c)) (others c))
+wanted c = fill (records (c .args .n) (c .args .out .now)) (rowOf (c .args .op) (own c) (others c))
 
 there : (c : tie.In-loop Inv-loop μ-loop) → c .before .loop .j < length (others (start c))
 there c = omega (arith, length-records (start c .args .nb) (start c .args .b .now), c .loop-test .taken)
@@ -58,7 +58,7 @@ same c = records-at (start c .args .nb) (c .before .loop .j) (start c .args .b .
 
 turn : (c : tie.In-loop Inv-loop μ-loop)
     → Filling (start c .args .out .now) (c .before .loop .out) (c .before .loop .m)
-    (pair c ∷ map (joinedFocal (start c .args .op) (own (start c))) (drop (c .before .loop .j + 1) (others (start c)))) (wanted (start c))
+    (pair c ∷ rowOf (start c .args .op) (own (start c)) (drop (c .before .loop .j + 1) (others (start c)))) (wanted (start c))
 turn c =
     subst (λ (l : List Focal). Filling (start c .args .out .now) (c .before .loop .out) (c .before .loop .m) l (wanted (start c)))
     (row-next (start c .args .op) (own (start c)) (others (start c)) (c .before .loop .j) (there c)) (c .before .loop .inv .1)
@@ -144,7 +144,7 @@ returns-2 c =
     let e : drop (c .before .loop .j) (others s) ≡ [] = drop-of-length-le (others s) {i = c .before .loop .j} (omega (arith, length-records (s .args .nb) (s .args .b .now), c .loop-test .left)) in
     let d : Done (s .args .out .now) (c .before .loop .out) (c .before .loop .m) (wanted s) =
     filling-done
-    (subst (λ (l : List Focal). Filling (s .args .out .now) (c .before .loop .out) (c .before .loop .m) (map (joinedFocal (s .args .op) (own s)) l) (wanted s)) e (c .before .loop .inv .1)) in
+    (subst (λ (l : List Focal). Filling (s .args .out .now) (c .before .loop .out) (c .before .loop .m) (rowOf (s .args .op) (own s) l) (wanted s)) e (c .before .loop .inv .1)) in
     (d .count, d .bytes)
 
 pub join-row-spec : {M : Type 1} → statement M

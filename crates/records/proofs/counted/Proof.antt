@@ -1,7 +1,6 @@
 -- `records::counted` meets its contract. Assumes nothing.
 use mathlib.Core.Path.{sym, ap}
 use mathlib.Core.Bool.{Bool, cond}
-use Prim.Native.Nat.{ℕ}
 use borrow.Author.Tests.{le-leb, lt-leb}
 use Rattle.records.proofs.counted.Statement.{statement}
 use Rattle.records.proofs.counted.Tie as tie

@@ -3,14 +3,14 @@ use mathlib.Core.Path.{_≡_, sym, ap, _∙_}
 use mathlib.Core.Bool.{false}
 use mathlib.Core.Logic.{⊎-elim}
 use mathlib.Core.List.{List}
-use Prim.Native.Nat.{ℕ, _≤_, _<_, _+_, _*_}
+use Prim.Native.Nat.{ℕ, _≤_, _<_, _+_}
 use native.Mathlib.Omega.{arith}
 use lib.Dec.{isEq}
 use borrow.Author.Needs.{needs}
 use Rattle.theory.specs.Focal.{Focal}
 use Rattle.theory.specs.Lists.{order}
-use Rattle.records.specs.Records.{bytesOf, recordAt, records, withWeight, keyed}
-use Rattle.records.specs.Store.{replaced}
+use Rattle.records.specs.Records.{recordAt, records, withWeight, keyed}
+use Rattle.records.specs.Store.{withRecord}
 use Rattle.records.specs.Insertion.{place}
 use Rattle.numbers.specs.Numbers.{Bytes}
 use Rattle.records.proofs.Place.{place-weight, place-count}
@@ -57,7 +57,7 @@ returns c =
     insert-at (a .n) (entry f) (bytes f) (new f) (f .find .result) (found f) (omega arith) (omega arith) (at-if1 .if1 .taken) (sym (at-matches .matches .ensures) ∙ at-if2 .if2 .taken) in (
       i .answer,
       at-put .write-weight .ensures
-          ∙ ap (λ (x : ℕ). replaced (entry f) (12 * f .find .result) 12 (bytesOf (withWeight (recordAt (entry f) (f .find .result)) (a .weight + x))))
+          ∙ ap (λ (x : ℕ). withRecord (entry f) (f .find .result) (withWeight (recordAt (entry f) (f .find .result)) (a .weight + x)))
           (at-weight .weight-at .ensures)
           ∙ i .bytes,
     )
