@@ -10,11 +10,11 @@ use Rattle.theory.specs.declared.Join.{Join}
 use Rattle.theory.specs.Joins.{joinedFocal, pairs}
 use Rattle.theory.specs.Lists.{collect}
 use Rattle.theory.specs.Limits.{mostIntervals, recordBytes, listBytes}
-use Rattle.records.specs.Records.{Under}
+use Rattle.records.specs.Records.{records, Under}
 use Rattle.records.specs.Store.{listIn, holdingFrom}
 use Rattle.joins.specs.declared.Joined.{Joined}
 use Rattle.joins.specs.declared.Joined.the-variants.{Made, Full}
-use Rattle.joins.specs.Filling.{fill}
+use Rattle.joins.specs.Filling.{Filled, fill}
 
 -- what a join answers whose list is l
 abbrev pub joinedAs : List Focal → Joined
@@ -40,6 +40,10 @@ lengthOfJoin l = cond (ltb mostIntervals (length l)) 0 (length l)
 -- one interval joined with each of a list
 abbrev pub rowOf : Join → Focal → List Focal → List Focal
 rowOf op f gs = map (joinedFocal op f) gs
+
+-- with each of the first nb records of b, put into the list of the first n records of out
+abbrev pub filledRow : Join → Focal → List ℕ → ℕ → List ℕ → ℕ → Filled
+filledRow op f b nb out n = fill (records n out) (rowOf op f (records nb b))
 
 -- the pairs of two lists of a store: na records from byte `left` on, and nb from byte `right` on
 abbrev pub pairsIn : Join → List ℕ → ℕ → ℕ → ℕ → ℕ → List Focal

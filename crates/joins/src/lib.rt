@@ -13,7 +13,7 @@ ghost use Rattle.records.specs.Records.{records, Under, speedLimit, keyed};
 ghost use Rattle.records.specs.Store.{copiedFrom, holding, holdingFrom};
 ghost use Rattle.records.specs.Insertion.{Insertable};
 ghost use Rattle.joins.specs.Filling.{fill};
-ghost use Rattle.joins.specs.Joins.{joinedAs, joinNumber, joinLength, numberOfJoin, lengthOfJoin, rowOf, joinIn, joinedStore, operandLimit, Joinable};
+ghost use Rattle.joins.specs.Joins.{joinedAs, joinNumber, joinLength, numberOfJoin, lengthOfJoin, filledRow, joinIn, joinedStore, operandLimit, Joinable};
 use records::SPEEDS;
 use theory::Component;
 use theory::Join;
@@ -45,8 +45,8 @@ fn join_row(op: Join, key: u64, weight: u64, b: &[u8], nb: usize, out: &mut [u8]
     requires { ⌜ Insertable (now out) n (weight * weights (records nb (now b))) ⌝ }
     requires { ⌜ recordBytes * nb ≤ length (now b) ⌝ }
     requires { ⌜ Under operandLimit (keyed key weight) × Every (Under operandLimit) (records nb (now b)) ⌝ }
-    ensures { λ r. ⌜ r ≡ fill (records n (now (out .entry))) (rowOf op (keyed key weight) (records nb (now (b .entry)))) .count ⌝ }
-    ensures { λ _. ⌜ now (out .exit) ≡ holding (now (out .entry)) (fill (records n (now (out .entry))) (rowOf op (keyed key weight) (records nb (now (b .entry)))) .list) ⌝ }
+    ensures { λ r. ⌜ r ≡ filledRow op (keyed key weight) (now (b .entry)) nb (now (out .entry)) n .count ⌝ }
+    ensures { λ _. ⌜ now (out .exit) ≡ holding (now (out .entry)) (filledRow op (keyed key weight) (now (b .entry)) nb (now (out .entry)) n .list) ⌝ }
 {
     let low = key / SPEEDS;
     let high = key % SPEEDS;

@@ -45,10 +45,9 @@ spread : (x : List Focal) (f : Focal) (y : List Focal) (t : List ℕ) → encode
 unfolding encode
 spread x f y t = rw (encode-append, append-assoc, append-assoc)
 
--- what an insertion of f into the n records of s leaves: the answer, and the bytes e
-pub record Inserted (n : ℕ) (s e : List ℕ) (f : Focal) (r : Insertion) : Type 0 where
-  pub answer : r ≡ insertionOf f (records n s)
-  pub bytes : e ≡ holding s (insertOrStay f (records n s))
+-- what an insertion of f into the n records of s answers and leaves
+abbrev pub Inserted : ℕ → List ℕ → List ℕ → Focal → Insertion → Type 0
+Inserted n s e f r = (r ≡ insertionOf f (records n s)) × (e ≡ holding s (insertOrStay f (records n s)))
 
 module _ (n : ℕ) (s : List ℕ) (b : Bytes s) (f : Focal) (p : ℕ) (pe : p ≡ place f (records n s)) where
   count-is : (m : ℕ) → length (inserted f (records n s)) ≡ m → _≡_ {A = Insertion} (record { count = m; place = p }) (insertionOf f (records n s))
@@ -65,15 +64,13 @@ module _ (n : ℕ) (s : List ℕ) (b : Bytes s) (f : Focal) (p : ℕ) (pe : p �
       insert-met f l (rw (hl, ← pe) h) (rw (← pe, ea) e) ∙ rw (← pe, ea) in
       let il : length (inserted f l) ≡ n =
       ap length i ∙ length-append (take p l) (new ∷ drop (suc p) l) ∙ rw (length-take-le p l (rw hl (omega arith)), length-drop, hl) (omega arith) in
-      let e12 : 12 * p + 12 ≡ 12 * suc p = omega arith in
-      record {
-        answer = count-is n il;
-        bytes =
-            (λ k. cut-front n s b fit p (omega arith) k ++ (bytesOf new ++ (ap (λ (m : ℕ). drop m s) e12 ∙ cut-back n s b fit (suc p) h) k))
+      let e12 : 12 * p + 12 ≡ 12 * suc p = omega arith in (
+        count-is n il,
+        (λ k. cut-front n s b fit p (omega arith) k ++ (bytesOf new ++ (ap (λ (m : ℕ). drop m s) e12 ∙ cut-back n s b fit (suc p) h) k))
             ∙ spread (take p l) new (drop (suc p) l) (drop (12 * n) s)
             ∙ (λ k. encode (sym i k) ++ drop (12 * sym il k) s)
-            ∙ ap (holding s) (sym (stay-fits f l (omega arith)));
-      }
+            ∙ ap (holding s) (sym (stay-fits f l (omega arith))),
+      )
 
   -- where no record is the same interval
   module _ (new : p < n → isEq (order (recordAt s p) f) ≡ false) where
@@ -102,28 +99,24 @@ module _ (n : ℕ) (s : List ℕ) (b : Bytes s) (f : Focal) (p : ℕ) (pe : p �
         let front : take (12 * p) t ≡ take (12 * p) s =
         ap (take (12 * p)) te ∙ take-append-le (12 * p) (take (12 * p + 12) s) z (omega arith) ∙ take-take (12 * p) (12 * p + 12) s (omega arith) in
         let rest : drop (12 * p + 12) t ≡ z = ap (drop (12 * p + 12)) te ∙ drop-at (take (12 * p + 12) s) z (12 * p + 12) tl in
-        let e12 : 12 * n + 12 ≡ 12 * (n + 1) = omega arith in
-        record {
-          answer = count-is (n + 1) longer;
-          bytes =
-              (λ k. (front ∙ cut-front n s b (omega arith) p h) k ++ (bytesOf f ++ rest k))
+        let e12 : 12 * n + 12 ≡ 12 * (n + 1) = omega arith in (
+          count-is (n + 1) longer,
+          (λ k. (front ∙ cut-front n s b (omega arith) p h) k ++ (bytesOf f ++ rest k))
               ∙ (λ k. encode (take p l) ++ (bytesOf f ++ (cut-mid n s b (omega arith) p h k ++ drop (e12 k) s)))
               ∙ spread (take p l) f (drop p l) (drop (12 * (n + 1)) s)
               ∙ (λ k. encode (sym list-is k) ++ drop (12 * sym longer k) s)
-              ∙ ap (holding s) (sym (stay-fits f l (omega (arith, longer))));
-        }
+              ∙ ap (holding s) (sym (stay-fits f l (omega (arith, longer)))),
+        )
 
     pub insert-over : 12 * n ≤ length s → n ≡ mostIntervals → Inserted n s s f (record { count = n + 1; place = p })
     insert-over fit m =
-        record {
-          answer = count-is (n + 1) longer;
-          bytes = holds n s b fit ∙ ap (holding s) (sym (stay-full f (records n s) (omega (arith, longer))));
-        }
+        (count-is (n + 1) longer, holds n s b fit ∙ ap (holding s) (sym (stay-full f (records n s) (omega (arith, longer)))))
 
-at-le-weights : (l : List Focal) (p : ℕ) → p < length l → intervalAt l p .weight ≤ weights l
-at-le-weights [] p h = absurd (not-suc-le-zero h)
-at-le-weights (x ∷ xs) zero h = omega arith
-at-le-weights (x ∷ xs) (suc p) h = omega (arith, at-le-weights xs p (le-of-suc-le-suc h))
+-- a record's weight is at most the sum
+at-le-sum : (l : List Focal) (p : ℕ) → p < length l → intervalAt l p .weight ≤ weights l
+at-le-sum [] p h = absurd (not-suc-le-zero h)
+at-le-sum (x ∷ xs) zero h = omega arith
+at-le-sum (x ∷ xs) (suc p) h = omega (arith, at-le-sum xs p (le-of-suc-le-suc h))
 
-pub weight-le : (n : ℕ) (s : List ℕ) (p : ℕ) → p < n → recordAt s p .weight ≤ weights (records n s)
-weight-le n s p h = rw (← records-at n p s h) (at-le-weights (records n s) p (rw length-records h))
+pub weight-le-sum : (n : ℕ) (s : List ℕ) (p : ℕ) → p < n → recordAt s p .weight ≤ weights (records n s)
+weight-le-sum n s p h = rw (← records-at n p s h) (at-le-sum (records n s) p (rw length-records h))

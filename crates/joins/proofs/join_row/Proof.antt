@@ -10,8 +10,8 @@ use Rattle.theory.specs.Joins.{joined, joinedFocal}
 use Rattle.theory.proofs.Every.{index-of-every}
 use Rattle.records.specs.Records.{keyOf, keyed, recordAt, records, intervalAt, Under, speedLimit}
 use Rattle.records.proofs.Records.{length-records, records-at, from-key}
-use Rattle.joins.specs.Filling.{Filled, fill}
-use Rattle.joins.specs.Joins.{rowOf, operandLimit}
+use Rattle.joins.specs.Filling.{Filled}
+use Rattle.joins.specs.Joins.{rowOf, filledRow, operandLimit}
 use Rattle.joins.proofs.Holding.{held, length-now, insertable}
 use Rattle.joins.proofs.Filling.{Filling, Done, fits-now, filling-step, filling-stop, filling-done}
 use Rattle.joins.proofs.Pairs.{joined-under, row-weights, row-next}
@@ -20,7 +20,7 @@ use Rattle.joins.proofs.join_row.Tie as tie
 
 abbrev Inv-loop : tie.InvT-loop
 Inv-loop op key weight b nb out₀ n low high m₀ hint₀ j₀ out m hint j =
-    (j ≤ nb) × Filling out₀ out m (rowOf op (keyed key weight) (drop j (records nb b))) (fill (records n out₀) (rowOf op (keyed key weight) (records nb b)))
+    (j ≤ nb) × Filling out₀ out m (rowOf op (keyed key weight) (drop j (records nb b))) (filledRow op (keyed key weight) b nb out₀ n)
 
 abbrev μ-loop : tie.MeasureT-loop
 μ-loop op key weight b nb out₀ n low high m₀ hint₀ j₀ out m hint j = nb - j
@@ -42,7 +42,7 @@ abbrev pair : tie.In-loop Inv-loop μ-loop → Focal
 pair c = joinedFocal (start c .args .op) (own (start c)) (other c)
 
 abbrev wanted : tie.Start Inv-loop μ-loop → Filled
-wanted c = fill (records (c .args .n) (c .args .out .now)) (rowOf (c .args .op) (own c) (others c))
+wanted c = filledRow (c .args .op) (own c) (c .args .b .now) (c .args .nb) (c .args .out .now) (c .args .n)
 
 there : (c : tie.In-loop Inv-loop μ-loop) → c .before .loop .j < length (others (start c))
 there c = omega (arith, length-records (start c .args .nb) (start c .args .b .now), c .loop-test .taken)

@@ -14,7 +14,7 @@ use Rattle.records.specs.Store.{withRecord}
 use Rattle.records.specs.Insertion.{place}
 use Rattle.numbers.specs.Numbers.{Bytes}
 use Rattle.records.proofs.Place.{place-weight, place-count}
-use Rattle.records.proofs.Inserting.{Inserted, insert-at, insert-in, insert-over, weight-le}
+use Rattle.records.proofs.Inserting.{Inserted, insert-at, insert-in, insert-over, weight-le-sum}
 use Rattle.records.proofs.insert.Statement.{statement}
 use Rattle.records.proofs.insert.Tie as tie
 
@@ -42,7 +42,7 @@ absent c h = ⊎-elim (λ w. sym (w .2 .ensures) ∙ w .3 .left) (λ w. absurd (
 add-write-weight : tie.Need-add-write-weight
 add-write-weight c =
     let f = c .before .before .before .before .before .before .before in
-    omega (arith, c .before .weight-at .ensures, weight-le (f .before .before .before .args .n) (entry f) (f .find .result) (omega arith), f .before .before .before .pre)
+    omega (arith, c .before .weight-at .ensures, weight-le-sum (f .before .before .before .args .n) (entry f) (f .find .result) (omega arith), f .before .before .before .pre)
 
 returns : tie.Need-returns
 returns c =
@@ -55,11 +55,11 @@ returns c =
     let a = f .before .before .before .args in
     let i : Inserted (a .n) (entry f) _ (new f) _ =
     insert-at (a .n) (entry f) (bytes f) (new f) (f .find .result) (found f) (omega arith) (omega arith) (at-if1 .if1 .taken) (sym (at-matches .matches .ensures) ∙ at-if2 .if2 .taken) in (
-      i .answer,
+      i .0,
       at-put .write-weight .ensures
           ∙ ap (λ (x : ℕ). withRecord (entry f) (f .find .result) (withWeight (recordAt (entry f) (f .find .result)) (a .weight + x)))
           (at-weight .weight-at .ensures)
-          ∙ i .bytes,
+          ∙ i .1,
     )
 
 mul-shift : tie.Need-mul-shift
@@ -82,16 +82,14 @@ returns-2 c =
     let a = f .before .before .before .args in
     let i : Inserted (a .n) (entry f) _ (new f) _ =
     insert-in (a .n) (entry f) (bytes f) (new f) (f .find .result) (found f) (absent j) (omega arith) (omega arith) (at-shift .shift .last .0) (at-shift .shift .ensures) in
-    (i .answer, at-put .write-record .ensures ∙ i .bytes)
+    (i .0, at-put .write-record .ensures ∙ i .1)
 
 returns-3 : tie.Need-returns-3
 returns-3 c =
     let j = c .before in
     let f = j .before in
     let a = f .before .before .before .args in
-    let i : Inserted (a .n) (entry f) (entry f) (new f) _ =
-    insert-over (a .n) (entry f) (bytes f) (new f) (f .find .result) (found f) (absent j) (omega arith) (omega arith) in
-    (i .answer, i .bytes)
+    insert-over (a .n) (entry f) (bytes f) (new f) (f .find .result) (found f) (absent j) (omega arith) (omega arith)
 
 pub insert-spec : {M : Type 1} → statement M
 insert-spec =
