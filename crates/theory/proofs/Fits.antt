@@ -20,7 +20,8 @@ use Rattle.theory.specs.declared.Join.the-variants.{Series, Shared, Spar
 use Rattle.theory.proofs.Counts.{once-length}
 use Rattle.theory.proofs.Monotone.{joined-mono}
 use Rattle.theory.proofs.Collect.{every-collect, weights-collect}
-use Rattle.theory.proofs.Every.{every-map, every-append, every-image, every-getD}
+use Rattle.theory.proofs.Every.{every-map, every-getD}
+use Rattle.theory.proofs.Steps.{every-pairs}
 use Rattle.theory.proofs.Structure.{one-tree}
 use Rattle.theory.proofs.Bridge.{drive-is-tree}
 use Rattle.theory.proofs.Totals.{weights-pairs, thousands}
@@ -30,15 +31,11 @@ joined-le Series a b = omega arith
 joined-le Shared a b = omega arith
 joined-le Spare a b = omega arith
 
-joined-upTo : (a b : ℕ) (op : Join) {f g : Focal} → UpTo a f → UpTo b g → UpTo (a + b) (joinedFocal op f g)
-joined-upTo a b op {f} {g} p q = record {
+joined-upTo : (m n : ℕ) (op : Join) (f g : Focal) → UpTo (topSpeed * m) f → UpTo (topSpeed * n) g → UpTo (topSpeed * (m + n)) (joinedFocal op f g)
+joined-upTo m n op f g p q = record {
   low-high = joined-mono op (p .low-high) (q .low-high);
   below = omega (arith, joined-le op (f .high) (g .high), p .below, q .below);
 }
-
-pairs-upTo : (a b : ℕ) (op : Join) {fs gs : List Focal} → Every (UpTo a) fs → Every (UpTo b) gs → Every (UpTo (a + b)) (pairs op fs gs)
-pairs-upTo a b op Every.none q = Every.none
-pairs-upTo a b op (Every.more {x = f} p r) q = every-append (every-image (joinedFocal op f) (λ g. joined-upTo a b op p) q) (pairs-upTo a b op r q)
 
 fits-collect : {m : ℕ} {l : List Focal} → Fits m l → Fits m (collect l)
 fits-collect {m} {l} p = record {
@@ -49,7 +46,7 @@ fits-collect {m} {l} p = record {
 module _ {m n : ℕ} (op : Join) {l r : List Focal} (p : Fits m l) (q : Fits n r) where
   fits-pairs : Fits (m + n) (pairs op l r)
   fits-pairs = record {
-    speeds = every-map (λ f h. record { low-high = h .low-high; below = omega (arith, h .below) }) (pairs-upTo (topSpeed * m) (topSpeed * n) op (p .speeds) (q .speeds));
+    speeds = every-pairs _*_ op (joined-upTo m n op) (p .speeds) (q .speeds);
     sum = rw (weights-pairs op l r, pow-add mostTotal m n) (mul-le-mul (p .sum) (q .sum));
   }
 
