@@ -11,7 +11,6 @@ pub mod Structure
 pub mod Bridge
 pub mod Method
 pub mod Totals
-pub mod Fits
 pub mod Shares
 pub mod Range
 pub mod Bounds

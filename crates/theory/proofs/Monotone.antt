@@ -17,10 +17,16 @@ use Rattle.theory.specs.Structure.{step, run, Φ}
 use Rattle.theory.specs.declared.Join.{Join}
 use Rattle.theory.specs.declared.Join.the-variants.{Series, Shared, Spare}
 
+-- Only these two laws know the three joins: what is joined grows with its parts, and is at most their sum.
 pub joined-mono : (op : Join) {a b c d : ℕ} → a ≤ b → c ≤ d → joined op a c ≤ joined op b d
 joined-mono Series h k = omega arith
 joined-mono Shared h k = omega arith
 joined-mono Spare h k = omega arith
+
+pub joined-le : (op : Join) (a b : ℕ) → joined op a b ≤ a + b
+joined-le Series a b = omega arith
+joined-le Shared a b = omega arith
+joined-le Spare a b = omega arith
 
 pub test-mono : (d a b : ℕ) → a ≤ b → cond (leb d a) 1 0 ≤ cond (leb d b) 1 0
 test-mono d a b h = go (leb d a) refl
