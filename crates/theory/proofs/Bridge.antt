@@ -134,7 +134,7 @@ weigh-outcomes cs es t e names k =
     sum-map (λ f. f .weight * k (f .low) (f .high)) (outcome es) (choices cs)
     ∙ (sum-ext (λ ch. ap (w ch *_) (ap₂ k (Φ-tree (λ f. f .low) refl (λ op f g. refl) es t e ch) (Φ-tree (λ f. f .high) refl (λ op f g. refl) es t e ch))) (choices cs)
     ∙ (sym (over-choices [] cs [] row 0 refl refl n G)
-    ∙ (sym (over-count cs G (countFrom 0 (length cs)) (leaves t) (λ j. names j ∙ sym (count-all j (length cs))) row)
+    ∙ (sym (over-count cs G (countFrom 0 (length cs)) (leaves t) (λ j. names j ∙ sym (count-all (length cs) j)) row)
     ∙ sym (over-tree cs t k row (λ j. named j .0) (λ j p. omega (arith, named j .1 p, n))))))
   where
     named : (j : ℕ) → (countOf j (leaves t) ≤ 1) × (0 < countOf j (leaves t) → j < length cs)

@@ -21,14 +21,14 @@ weigh k = sumBy (λ f. f .weight * k (f .low) (f .high))
 
 pub weigh-insert : (k : ℕ → ℕ → ℕ) (f : Focal) (gs : List Focal) → weigh k (inserted f gs) ≡ f .weight * k (f .low) (f .high) + weigh k gs
 weigh-insert k f [] = refl
-weigh-insert k f (g ∷ gs) = go (order f g) (placed f g) (weigh-insert k f gs)
+weigh-insert k f (g ∷ gs) = go (placed f g) (weigh-insert k f gs)
   where
-    go : (o : Ordering) → Placed f g o → weigh k (inserted f gs) ≡ f .weight * k (f .low) (f .high) + weigh k gs
+    go : {o : Ordering} → Placed f g o → weigh k (inserted f gs) ≡ f .weight * k (f .low) (f .high) + weigh k gs
         → weigh k (insertedAt o f g gs (inserted f gs)) ≡ f .weight * k (f .low) (f .high) + weigh k (g ∷ gs)
-    go Ordering·lt p r = refl
-    go Ordering·eq (Placed.same p q) r =
+    go (Placed.before p) r = refl
+    go (Placed.same p q) r =
         rw (p, q) (omega (arith, add-mul (f .weight) (g .weight) (k (g .low) (g .high))))
-    go Ordering·gt p r = omega arith
+    go (Placed.after p) r = omega arith
 
 -- Every weighted sum is kept: belief, plausibility, the weight at an interval, and the total with them.
 pub weigh-collect : (k : ℕ → ℕ → ℕ) (fs : List Focal) → weigh k (collect fs) ≡ weigh k fs
@@ -50,12 +50,12 @@ before-all f g p b = Every.more p (every-map (λ h q. before-trans f g h p q) b)
 
 pub order-insert : (f : Focal) {gs : List Focal} → InOrder gs → InOrder (inserted f gs)
 order-insert f InOrder.none = InOrder.more Every.none InOrder.none
-order-insert f (InOrder.more {f = g} {fs = gs} b r) = go (order f g) (placed f g) (order-insert f r)
+order-insert f (InOrder.more {f = g} {fs = gs} b r) = go (placed f g) (order-insert f r)
   where
-    go : (o : Ordering) → Placed f g o → InOrder (inserted f gs) → InOrder (insertedAt o f g gs (inserted f gs))
-    go Ordering·lt (Placed.before p) s = InOrder.more (before-all f g p b) (InOrder.more b r)
-    go Ordering·eq p s = InOrder.more b r
-    go Ordering·gt (Placed.after p) s = InOrder.more (every-insert (Before g) (λ h j q t. t) f p b) s
+    go : {o : Ordering} → Placed f g o → InOrder (inserted f gs) → InOrder (insertedAt o f g gs (inserted f gs))
+    go (Placed.before p) s = InOrder.more (before-all f g p b) (InOrder.more b r)
+    go (Placed.same p q) s = InOrder.more b r
+    go (Placed.after p) s = InOrder.more (every-insert (Before g) (λ h j q t. t) f p b) s
 
 pub order-collect : (fs : List Focal) → InOrder (collect fs)
 order-collect [] = InOrder.none
@@ -110,14 +110,14 @@ canonical InOrder.none Every.none (InOrder.more {f = g} {fs = gs} b s) (Every.mo
 canonical (InOrder.more {f = f} {fs = fs} b s) (Every.more p q) InOrder.none Every.none h =
     absurd (omega (arith, h (f .low) (f .high), at-self f fs))
 canonical (InOrder.more {f = f} {fs = fs} b s) (Every.more p q) (InOrder.more {f = g} {fs = gs} c t) (Every.more u v) h =
-    go (order f g) (placed f g) (λ k. canonical s q t v k)
+    go (placed f g) (λ k. canonical s q t v k)
   where
-    go : (o : Ordering) → Placed f g o → (((x y : ℕ) → weightAt x y fs ≡ weightAt x y gs) → fs ≡ gs) → f ∷ fs ≡ g ∷ gs
-    go Ordering·lt (Placed.before k) r =
+    go : {o : Ordering} → Placed f g o → (((x y : ℕ) → weightAt x y fs ≡ weightAt x y gs) → fs ≡ gs) → f ∷ fs ≡ g ∷ gs
+    go (Placed.before k) r =
         absurd (omega (arith, h (f .low) (f .high), at-self f fs, at-none f (before-all f g k c)))
-    go Ordering·gt (Placed.after k) r =
+    go (Placed.after k) r =
         absurd (omega (arith, h (g .low) (g .high), at-self g gs, at-none g (before-all g f k b)))
-    go Ordering·eq (Placed.same k l) r =
+    go (Placed.same k l) r =
         let w : f .weight ≡ g .weight = omega (arith, h (f .low) (f .high), at-self f fs, at-none f b, ap₂ (λ x y. weightAt x y (g ∷ gs)) k l, at-self g gs, at-none g c) in
         let fg : f ≡ g = λ i. record { low = k i; high = l i; weight = w i } in
         ap₂ _∷_ fg (r (λ x y. omega (arith, h x y, ap (λ (j : Focal). cond (eqb x (j .low) && eqb y (j .high)) (j .weight) 0) fg)))

@@ -8,7 +8,7 @@ use native.Mathlib.Omega.{arith}
 use lib.Dec.{eqb, ltb}
 use lib.ListN.{length}
 use borrow.Author.Tests.{eqb-true, eqb-false, eq-eqb, ltb-true, ltb-false}
-use Rattle.theory.specs.Sums.{countFrom, countOf}
+use Rattle.theory.specs.Sums.{countFrom, countOf, EachOnce}
 use Rattle.theory.proofs.Sums.{sum-append, sum-out, sum-point, length-count}
 
 pub count-append : (i : ℕ) (xs ys : List ℕ) → countOf i (xs ++ ys) ≡ countOf i xs + countOf i ys
@@ -44,14 +44,14 @@ module _ {B : Type 0} (F : List ℕ → B) (behind : (i : ℕ) (js ks : List ℕ
       to-front F behind swap k js p ∙ behind k (del k js) ks (by-counts ks (del k js) (λ i. omega (arith, h i, count-del i k js p)))
 
 -- the count from 0 has each number below n once, and no other
-pub count-all : (j n : ℕ) → countOf j (countFrom 0 n) ≡ cond (ltb j n) 1 0
-count-all j n = go (ltb j n) refl
+pub count-all : (n : ℕ) → EachOnce n (countFrom 0 n)
+count-all n j = go (ltb j n) refl
   where
     go : (b : Bool) → ltb j n ≡ b → countOf j (countFrom 0 n) ≡ cond b 1 0
     go true e = sum-point j (λ i. 1) 0 n (omega arith) (omega (arith, ltb-true j n e))
     go false e = sum-out j (λ i. 1) 0 n (inr (omega (arith, ltb-false j n e)))
 
 -- so a list that does has n numbers
-pub once-length : (n : ℕ) (js : List ℕ) → ((i : ℕ) → countOf i js ≡ cond (ltb i n) 1 0) → length js ≡ n
+pub once-length : (n : ℕ) (js : List ℕ) → EachOnce n js → length js ≡ n
 once-length n js once =
-    by-counts length (λ i js ks. ap suc) (λ i j ne ks. refl) (countFrom 0 n) js (λ i. once i ∙ sym (count-all i n)) ∙ length-count 0 n
+    by-counts length (λ i js ks. ap suc) (λ i j ne ks. refl) (countFrom 0 n) js (λ i. once i ∙ sym (count-all n i)) ∙ length-count 0 n

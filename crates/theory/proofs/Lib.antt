@@ -9,11 +9,8 @@ pub mod Steps
 pub mod Lists
 pub mod Structure
 pub mod Bridge
-pub mod Walk
+pub mod Method
 pub mod Totals
-pub mod Fits
 pub mod Shares
-pub mod Ends
 pub mod Range
 pub mod Bounds
-pub mod Method

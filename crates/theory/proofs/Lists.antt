@@ -8,22 +8,22 @@ use lib.ListN.{length}
 use Rattle.theory.specs.Sums.{Every}
 use Rattle.theory.specs.Focal.{Focal}
 use Rattle.theory.specs.Lists.{lexically, order, Before, InOrder, merged, insertedAt, inserted, collect, insertAll}
-use Rattle.theory.proofs.Order.{Placed, placed, before-trans, before-same, order-before, order-after, order-same}
+use Rattle.theory.proofs.Order.{Placed, placed, before-trans, before-same, order-is}
 
 -- where a new interval goes
 pub insert-skip : (f : Focal) {fs : List Focal} → Every (λ g. Before g f) fs → (gs : List Focal) → inserted f (fs ++ gs) ≡ fs ++ inserted f gs
 insert-skip f Every.none gs = refl
-insert-skip f (Every.more {x = g} {xs = fs} p r) gs = rw (order-after f g p) (ap (g ∷_) (insert-skip f r gs))
+insert-skip f (Every.more {x = g} {xs = fs} p r) gs = rw (order-is f g (Placed.after p)) (ap (g ∷_) (insert-skip f r gs))
 
 pub insert-here : (f g : Focal) → Before f g → (gs : List Focal) → inserted f (g ∷ gs) ≡ f ∷ g ∷ gs
-insert-here f g b gs = rw (order-before f g b) refl
+insert-here f g b gs = rw (order-is f g (Placed.before b)) refl
 
 pub insert-same : (f g : Focal) → f .low ≡ g .low → f .high ≡ g .high → (gs : List Focal)
     → inserted f (g ∷ gs) ≡ merged f g ∷ gs
-insert-same f g p q gs = rw (order-same f g p q) refl
+insert-same f g p q gs = rw (order-is f g (Placed.same p q)) refl
 
 pub insert-after : (f g : Focal) → Before g f → (gs : List Focal) → inserted f (g ∷ gs) ≡ g ∷ inserted f gs
-insert-after f g b gs = rw (order-after f g b) refl
+insert-after f g b gs = rw (order-is f g (Placed.after b)) refl
 
 pub insert-front : (f : Focal) {gs : List Focal} → Every (Before f) gs → inserted f gs ≡ f ∷ gs
 insert-front f Every.none = refl
@@ -45,42 +45,42 @@ earlier-first f g h b c l = go (order g h)
 
 commute-before : (f g : Focal) → Before f g → (l : List Focal) → inserted f (inserted g l) ≡ inserted g (inserted f l)
 commute-before f g b [] = insert-here f g b [] ∙ sym (insert-after g f b [])
-commute-before f g b (h ∷ l) = go (order f h) (placed f h) (commute-before f g b l)
+commute-before f g b (h ∷ l) = go (placed f h) (commute-before f g b l)
   where
-    go : (o : Ordering) → Placed f h o → inserted f (inserted g l) ≡ inserted g (inserted f l)
+    go : {o : Ordering} → Placed f h o → inserted f (inserted g l) ≡ inserted g (inserted f l)
         → inserted f (inserted g (h ∷ l)) ≡ inserted g (insertedAt o f h l (inserted f l))
-    go Ordering·lt (Placed.before c) r = earlier-first f g h b c l ∙ sym (insert-after g f b (h ∷ l))
-    go Ordering·eq (Placed.same p q) r =
+    go (Placed.before c) r = earlier-first f g h b c l ∙ sym (insert-after g f b (h ∷ l))
+    go (Placed.same p q) r =
         let c : Before h g = before-same f g h p q b in
         rw (insert-after g h c l, insert-same f h p q (inserted g l)) (sym (insert-after g (merged f h) c l))
-    go Ordering·gt (Placed.after c) r =
+    go (Placed.after c) r =
         let d : Before h g = before-trans h f g c b in
         rw (insert-after g h d l, insert-after f h c (inserted g l), insert-after g h d (inserted f l)) (ap (h ∷_) r)
 
 insert-merged : (f g : Focal) → f .low ≡ g .low → f .high ≡ g .high → (l : List Focal) → inserted f (inserted g l) ≡ inserted (merged f g) l
 insert-merged f g p q [] = insert-same f g p q []
-insert-merged f g p q (h ∷ l) = go (order g h) (placed g h) (insert-merged f g p q l)
+insert-merged f g p q (h ∷ l) = go (placed g h) (insert-merged f g p q l)
   where
-    go : (o : Ordering) → Placed g h o → inserted f (inserted g l) ≡ inserted (merged f g) l
+    go : {o : Ordering} → Placed g h o → inserted f (inserted g l) ≡ inserted (merged f g) l
         → inserted f (insertedAt o g h l (inserted g l)) ≡ insertedAt o (merged f g) h l (inserted (merged f g) l)
-    go Ordering·lt c r = insert-same f g p q (h ∷ l)
-    go Ordering·eq (Placed.same s t) r =
+    go (Placed.before c) r = insert-same f g p q (h ∷ l)
+    go (Placed.same s t) r =
         insert-same f (merged g h) (p ∙ s) (q ∙ t) l ∙ (λ i. record { low = h .low; high = h .high; weight = sym (add-assoc (f .weight) (g .weight) (h .weight)) i } ∷ l)
-    go Ordering·gt (Placed.after c) r =
-        let e : order f h ≡ Ordering·gt = ap₂ (λ x y. lexically (compare x (h .low)) (compare y (h .high))) p q ∙ order-after g h c in
+    go (Placed.after c) r =
+        let e : order f h ≡ Ordering·gt = ap₂ (λ x y. lexically (compare x (h .low)) (compare y (h .high))) p q ∙ order-is g h (Placed.after c) in
         rw e (ap (h ∷_) r)
 
 merged-comm : (f g : Focal) → f .low ≡ g .low → f .high ≡ g .high → merged f g ≡ merged g f
 merged-comm f g p q i = record { low = sym p i; high = sym q i; weight = add-comm (f .weight) (g .weight) i }
 
 pub insert-commute : (f g : Focal) (l : List Focal) → inserted f (inserted g l) ≡ inserted g (inserted f l)
-insert-commute f g l = go (order f g) (placed f g)
+insert-commute f g l = go (placed f g)
   where
-    go : (o : Ordering) → Placed f g o → inserted f (inserted g l) ≡ inserted g (inserted f l)
-    go Ordering·lt (Placed.before b) = commute-before f g b l
-    go Ordering·eq (Placed.same p q) =
+    go : {o : Ordering} → Placed f g o → inserted f (inserted g l) ≡ inserted g (inserted f l)
+    go (Placed.before b) = commute-before f g b l
+    go (Placed.same p q) =
         insert-merged f g p q l ∙ (ap (λ (h : Focal). inserted h l) (merged-comm f g p q) ∙ sym (insert-merged g f (sym p) (sym q) l))
-    go Ordering·gt (Placed.after b) = sym (commute-before g f b l)
+    go (Placed.after b) = sym (commute-before g f b l)
 
 -- one more interval at the end of what is collected
 pub collect-snoc : (fs : List Focal) (f : Focal) → collect (fs ++ (f ∷ [])) ≡ inserted f (collect fs)

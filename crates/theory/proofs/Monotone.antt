@@ -17,12 +17,18 @@ use Rattle.theory.specs.Structure.{step, run, Φ}
 use Rattle.theory.specs.declared.Join.{Join}
 use Rattle.theory.specs.declared.Join.the-variants.{Series, Shared, Spare}
 
+-- Only these two laws know the three joins: what is joined grows with its parts, and is at most their sum.
 pub joined-mono : (op : Join) {a b c d : ℕ} → a ≤ b → c ≤ d → joined op a c ≤ joined op b d
 joined-mono Series h k = omega arith
 joined-mono Shared h k = omega arith
 joined-mono Spare h k = omega arith
 
-test-mono : (d a b : ℕ) → a ≤ b → cond (leb d a) 1 0 ≤ cond (leb d b) 1 0
+pub joined-le : (op : Join) (a b : ℕ) → joined op a b ≤ a + b
+joined-le Series a b = omega arith
+joined-le Shared a b = omega arith
+joined-le Spare a b = omega arith
+
+pub test-mono : (d a b : ℕ) → a ≤ b → cond (leb d a) 1 0 ≤ cond (leb d b) 1 0
 test-mono d a b h = go (leb d a) refl
   where
     go : (t : Bool) → leb d a ≡ t → cond (leb d a) 1 0 ≤ cond (leb d b) 1 0
@@ -59,21 +65,21 @@ pub bounding-trans : {side : Side} {a b c : ℕ} → Bounding side a b → Bound
 bounding-trans (least h) (least k) = least (le-trans h k)
 bounding-trans (greatest h) (greatest k) = greatest (le-trans k h)
 
+-- and so do functions that grow with what they are given
+pub bounding-mono : (φ : ℕ → ℕ) → ((a b : ℕ) → a ≤ b → φ a ≤ φ b) → {side : Side} {a b : ℕ} → Bounding side a b → Bounding side (φ a) (φ b)
+bounding-mono φ mono {a = a} {b = b} (least h) = least (mono a b h)
+bounding-mono φ mono {a = a} {b = b} (greatest h) = greatest (mono b a h)
+
+bounding-mono₂ : (φ : ℕ → ℕ → ℕ) → ((a b c d : ℕ) → a ≤ b → c ≤ d → φ a c ≤ φ b d) → {side : Side} {a b c d : ℕ}
+    → Bounding side a b → Bounding side c d → Bounding side (φ a c) (φ b d)
+bounding-mono₂ φ mono (least h) (least k) = least (mono _ _ _ _ h k)
+bounding-mono₂ φ mono (greatest h) (greatest k) = greatest (mono _ _ _ _ h k)
+
 pub bounding-add : {side : Side} {a b c d : ℕ} → Bounding side a b → Bounding side c d → Bounding side (a + c) (b + d)
-bounding-add (least h) (least k) = least (add-le-add h k)
-bounding-add (greatest h) (greatest k) = greatest (add-le-add h k)
+bounding-add = bounding-mono₂ _+_ (λ a b c d. add-le-add)
 
 pub bounding-mul : {side : Side} (k : ℕ) {a b : ℕ} → Bounding side a b → Bounding side (k * a) (k * b)
-bounding-mul k (least h) = least (mul-le-mul-left k h)
-bounding-mul k (greatest h) = greatest (mul-le-mul-left k h)
-
-bounding-joined : {side : Side} (op : Join) {a b c d : ℕ} → Bounding side a b → Bounding side c d → Bounding side (joined op a c) (joined op b d)
-bounding-joined op (least h) (least k) = least (joined-mono op h k)
-bounding-joined op (greatest h) (greatest k) = greatest (joined-mono op h k)
-
-pub bounding-test : {side : Side} (d : ℕ) {a b : ℕ} → Bounding side a b → Bounding side (cond (leb d a) 1 0) (cond (leb d b) 1 0)
-bounding-test d {a} {b} (least h) = least (test-mono d a b h)
-bounding-test d {a} {b} (greatest h) = greatest (test-mono d b a h)
+bounding-mul k = bounding-mono (k *_) (λ a b. mul-le-mul-left k)
 
 -- an end bounds what lies inside, and lies inside itself
 pub end-bounds : (side : Side) (f : Focal) (s : ℕ) → Inside f s → Bounding side (end side f) s
@@ -111,7 +117,7 @@ module _ (side : Side) where
     step-bounding (component i) r = Forall₂·cons (getD-bounding h i) r
     step-bounding (join op) Forall₂·nil = Forall₂·nil
     step-bounding (join op) (Forall₂·cons k Forall₂·nil) = Forall₂·cons k Forall₂·nil
-    step-bounding (join op) (Forall₂·cons k (Forall₂·cons l r)) = Forall₂·cons (bounding-joined op l k) r
+    step-bounding (join op) (Forall₂·cons k (Forall₂·cons l r)) = Forall₂·cons (bounding-mono₂ (joined op) (λ a b c d. joined-mono op) l k) r
 
     run-bounding : (es : List Entry) {p q : List ℕ} → BoundingAll p q → BoundingAll (run (λ i. getD u i 0) joined es p) (run (λ i. getD v i 0) joined es q)
     run-bounding [] r = r

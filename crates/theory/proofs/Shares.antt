@@ -16,7 +16,7 @@ use Rattle.theory.specs.Choices.{choices, outcome, outcomes}
 use Rattle.theory.specs.Division.{speeds, Parts, SplitsOne, Divides, draws, putOn, drawWeight, shareAbove, shareTotal}
 use Rattle.theory.specs.declared.Component.{Component}
 use Rattle.theory.proofs.Sums.{sum-ext, sum-scale, sum-add, sum-zero, sum-map, sum-oneOfEach, cond-mul}
-use Rattle.theory.proofs.Monotone.{Side, lower, upper, end, Bounding, bounding-refl, bounding-trans, bounding-add, bounding-mul, bounding-test, end-bounds, BoundingAll, all-refl, sum-bounding, Φ-bounding}
+use Rattle.theory.proofs.Monotone.{Side, lower, upper, end, Bounding, bounding-refl, bounding-trans, bounding-mono, bounding-add, bounding-mul, test-mono, end-bounds, BoundingAll, all-refl, sum-bounding, Φ-bounding}
 
 -- The sum over all choices, each interval by one of its ends, and the sum over all draws.
 abbrev pub endSum : Side → List Component → (List ℕ → ℕ) → ℕ
@@ -119,6 +119,6 @@ pub share-bound : (side : Side) (m : ℕ) (es : List Entry) {cs : List Component
     → Bounding side (shares side d (outcomes es cs) * shareTotal m cs) (shareAbove es pss d * total cs)
 share-bound side m es {cs} {pss} h d =
     let bound : Bounding side (m ^ length cs * endSum side cs (meets es d)) (drawSum pss (meets es d))
-    = draws-bound side m h (meets es d) (λ u v k. bounding-test d (Φ-bounding side k es)) in
+    = draws-bound side m h (meets es d) (λ u v k. bounding-mono (λ x. cond (leb d x) 1 0) (test-mono d) (Φ-bounding side k es)) in
     rw (shares-is side es cs d, shareAbove-is es pss d, shareTotal-is m cs, mul-comm (drawSum pss (meets es d)), mul-comm (endSum side cs (meets es d)), mul-comm (m ^ length cs), mul-assoc (total cs))
     (bounding-mul (total cs) bound)

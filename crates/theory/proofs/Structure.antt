@@ -1,12 +1,11 @@
 -- A structure of 2n − 1 entries that names each component once, and whose joins find two lists, leaves one tree that names each once. Assumes nothing.
 use Prim.Native.Nat.{ℕ, _+_, _*_}
 use mathlib.Core.Path.{_≡_, refl, ap}
-use mathlib.Core.Bool.{true, cond, false≢true}
+use mathlib.Core.Bool.{true, false≢true}
 use mathlib.Core.List.{List, [], _∷_}
 use native.Mathlib.Omega.{arith}
-use lib.Dec.{ltb}
 use lib.ListN.{length}
-use Rattle.theory.specs.Sums.{sumBy, countOf}
+use Rattle.theory.specs.Sums.{sumBy, countOf, EachOnce}
 use Rattle.theory.specs.declared.Entry.{Entry}
 use Rattle.theory.specs.declared.Entry.the-variants.{Component as component, Join as join}
 use Rattle.theory.specs.Structure.{run, named, NamedOnce, joinsFindTwo, Tree, leaf, node, trees, leaves}
@@ -14,7 +13,7 @@ use Rattle.theory.proofs.Counts.{count-append, once-length}
 
 -- a sub-structure that names every component below n once, and no other
 abbrev pub NamesEach : ℕ → Tree → Type 0
-NamesEach n t = (i : ℕ) → countOf i (leaves t) ≡ cond (ltb i n) 1 0
+NamesEach n t = EachOnce n (leaves t)
 
 -- how often the trees of a stack name a component
 abbrev timesNamed : ℕ → List Tree → ℕ

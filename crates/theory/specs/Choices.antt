@@ -11,7 +11,7 @@ use Rattle.theory.specs.declared.Entry.{Entry}
 use Rattle.theory.specs.Structure.{Φ}
 use Rattle.theory.specs.declared.Component.{Component}
 
--- every choice of one interval for each component
+-- Every choice takes one interval for each component.
 abbrev pub choices : List Component → List (List Focal)
 choices cs = oneOfEach (map masses cs)
 
@@ -28,7 +28,7 @@ outcome es ch = focal (Φ es (lows ch)) (Φ es (highs ch)) (productBy (λ f. f .
 abbrev pub outcomes : List Entry → List Component → List Focal
 outcomes es cs = map (outcome es) (choices cs)
 
--- the sum of the weights of the intervals whose low and high pass a test
+-- The weights of the intervals whose low and high pass a test, added up.
 abbrev pub weightWhere : (ℕ → ℕ → Bool) → List Focal → ℕ
 weightWhere test = sumBy (λ f. cond (test (f .low) (f .high)) (f .weight) 0)
 
@@ -39,11 +39,11 @@ belief d = weightWhere (λ low high. leb d low)
 abbrev pub plausibility : ℕ → List Focal → ℕ
 plausibility d = weightWhere (λ low high. leb d high)
 
--- the weight at the interval from a to b
+-- The weight at the interval from a to b.
 abbrev pub weightAt : ℕ → ℕ → List Focal → ℕ
 weightAt a b = weightWhere (λ low high. eqb a low && eqb b high)
 
--- one speed inside each interval of a choice
+-- A row of speeds has one inside each interval of a choice.
 abbrev pub Within : List Focal → List ℕ → Type 0
 Within = Forall₂ Inside
 

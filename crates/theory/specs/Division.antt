@@ -11,7 +11,7 @@ use Rattle.theory.specs.declared.Entry.{Entry}
 use Rattle.theory.specs.Structure.{Φ}
 use Rattle.theory.specs.declared.Component.{Component}
 
--- the speeds 0 to 4,095
+-- The speeds 0 to 4,095.
 unfoldable pub speeds : List ℕ
 speeds = countFrom 0 (suc topSpeed)
 
@@ -19,12 +19,12 @@ speeds = countFrom 0 (suc topSpeed)
 abbrev pub Parts : Type 0
 Parts = ℕ → ℕ
 
--- m times the weight of f is split into whole parts, each on a speed inside the interval of f
+-- m times the weight of f is split into whole parts that add up to it, each on one speed inside the interval of f.
 pub record SplitsOne (m : ℕ) (f : Focal) (p : Parts) : Type 0 where
   pub inside : (s : ℕ) → 0 < p s → Inside f s
   pub whole : sumBy p speeds ≡ m * f .weight
 
--- each weight of a list in turn, and each list of weights of the components in turn
+-- Each weight of a list is split so, and each component's list of weights.
 abbrev pub Splits : ℕ → List Focal → List Parts → Type 0
 Splits m = Forall₂ (SplitsOne m)
 
@@ -42,7 +42,7 @@ pub record Division (cs : List Component) : Type 0 where
 abbrev pub draws : List (List Parts) → List (List ℕ)
 draws pss = oneOfEach (map (λ ps. speeds) pss)
 
--- all that a division puts on a speed of one component
+-- All that a division puts on a speed of one component.
 abbrev pub putOn : List Parts → ℕ → ℕ
 putOn ps s = sumBy (λ p. p s) ps
 
