@@ -6,14 +6,18 @@ use native.Mathlib.Nat.{pow-le-pow-right, pow-suc, div-one, div-div-eq-div-mul, 
 use native.Mathlib.Numerals.{add-one}
 use native.Mathlib.Omega.{arith}
 use lib.Arith.{digits-lt, digits-div, digits-mod, mod-mul}
-use lib.ListN.{length, take, drop, getD, set, take-append-drop}
-use lib.Seq.{drop-cons, take-suc, append-snoc, set-at, length-take-le, getD-drop}
+use lib.ListN.{length, take, drop, getD, set, take-append-drop, length-drop}
+use lib.Seq.{drop-cons, take-suc, append-snoc, set-at, length-take-le, take-all, getD-drop}
 use Rattle.numbers.specs.Numbers.{Bytes, bigEndian, onto}
 
 -- ---- one step along a list
 
 pub part-cons : (s : List ℕ) (k m : ℕ) → k < length s → take (m + 1) (drop k s) ≡ getD s k 0 ∷ take m (drop (k + 1) s)
 part-cons s k m h = rw (add-one, drop-cons s k 0, add-one k)
+
+-- the part from k to the end is the rest
+pub part-rest : (s : List ℕ) (k : ℕ) → take (length s - k) (drop k s) ≡ drop k s
+part-rest s k = take-all (length s - k) (drop k s) (omega (arith, length-drop k s))
 
 -- the store that goes in just before what stands behind a front part
 pub back : (s t : List ℕ) (k b : ℕ) → k < length s → set (take (k + 1) s ++ t) k b ≡ take k s ++ (b ∷ t)

@@ -46,7 +46,7 @@ blocks-fit (more {x} {xs} k ks) (more t ts) (more r rs) (more b bs) =
     fitting-append (fieldsOf c) (forEach xs fieldsOf)
     (fitting-fieldsOf c (omega (arith, k)) (omega (arith, t)) (λ i h.
     let f = every-below (focalAt c) 0 (c .count) i r (omega arith) (omega arith) in
-    (omega (arith, f .upright, f .below), omega (arith, f .below), omega (arith, weight-within c 0 (c .count) i (omega arith) (omega arith), b, t))))
+    (omega (arith, f .low-high, f .below), omega (arith, f .below), omega (arith, weight-within c 0 (c .count) i (omega arith) (omega arith), b, t))))
     (blocks-fit ks ts rs bs)
 
 codes-fit : (n : ℕ) {codes : List ℕ} → Every (λ code. badCode n code ≡ false) codes → Fitting (map (bits 4) codes)

@@ -45,7 +45,7 @@ module _ (c : Component) where
       let f = focalAt c j in
       let a = neither (ltb (f .high) (f .low) || ltb topSpeed (f .high)) (eqb (f .weight) 0) (alone j e) in
       let b = neither (ltb (f .high) (f .low)) (ltb topSpeed (f .high)) (a .0) in
-      record { upright = ltb-false (f .high) (f .low) (b .0); below = ltb-false topSpeed (f .high) (b .1) }
+      record { low-high = ltb-false (f .high) (f .low) (b .0); below = ltb-false topSpeed (f .high) (b .1) }
 
   weight-above : (j : ℕ) → badInterval c j ≡ false → Positive (focalAt c j)
   weight-above j e =

@@ -1,6 +1,6 @@
 -- Laws of a property of each element of a list. Assumes nothing.
 use Prim.Native.Nat.{ℕ, zero, suc, _<_}
-use mathlib.Core.List.{List, [], _∷_, _++_, map}
+use mathlib.Core.List.{List, _∷_, _++_, map}
 use native.Mathlib.Omega.{arith}
 use lib.ListN.{length, getD}
 use Rattle.theory.specs.Sums.{forEach, oneOfEach, Every}
@@ -14,10 +14,6 @@ pub every-getD : {A : Type 0} (P : A → Type 0) (z : A) → P z → {xs : List 
 every-getD P z e Every.none i = e
 every-getD P z e (Every.more p r) zero = p
 every-getD P z e (Every.more p r) (suc i) = every-getD P z e r i
-
-pub every-all : {A : Type 0} {P : A → Type 0} → ((x : A) → P x) → (xs : List A) → Every P xs
-every-all h [] = Every.none
-every-all h (x ∷ xs) = Every.more (h x) (every-all h xs)
 
 pub every-append : {A : Type 0} {P : A → Type 0} {xs ys : List A} → Every P xs → Every P ys → Every P (xs ++ ys)
 every-append Every.none q = q

@@ -1,0 +1,160 @@
+-- `joins::join_lists` meets its contract. The invariant: what is left of the pairs, filled into the list so far, gives the list that is
+-- wanted. Assumes nothing.
+use mathlib.Core.Path.{_≡_, refl, sym, ap, _∙_, subst}
+use mathlib.Core.List.{List, [], _++_}
+use Prim.Native.Nat.{_≤_, _<_, _+_, _*_, _-_}
+use native.Mathlib.Nat.{zero-add}
+use native.Mathlib.Omega.{arith}
+use lib.ListN.{length, drop, drop-of-length-le}
+use Rattle.theory.specs.Sums.{Every}
+use Rattle.theory.specs.Focal.{Focal, weights, noFocal}
+use Rattle.theory.specs.Joins.{pairs}
+use Rattle.theory.specs.Lists.{InOrder}
+use Rattle.theory.proofs.Every.{index-of-every}
+use Rattle.theory.proofs.Totals.{weights-pairs}
+use Rattle.records.specs.Records.{keyOf, keyed, recordAt, records, intervalAt, Under, speedLimit}
+use Rattle.records.specs.Store.{holding}
+use Rattle.records.specs.Insertion.{Insertable}
+use Rattle.records.proofs.Records.{length-records, records-at, from-key}
+use Rattle.joins.specs.Filling.{Filled, fill}
+use Rattle.joins.specs.Joins.{rowOf, operandLimit}
+use Rattle.joins.proofs.Holding.{held, length-now}
+use Rattle.joins.proofs.Filling.{Filling, Done, row-insertable, filling-row, filling-row-stop, filling-done}
+use Rattle.joins.proofs.Pairs.{row-under, row-weights, pairs-next}
+use Rattle.joins.proofs.join_lists.Statement.{statement}
+use Rattle.joins.proofs.join_lists.Tie as tie
+
+abbrev Inv-loop : tie.InvT-loop
+Inv-loop op a na b nb out₀ m₀ i₀ out m i =
+    (i ≤ na) × Filling out₀ out m (pairs op (drop i (records na a)) (records nb b)) (fill [] (pairs op (records na a) (records nb b)))
+
+abbrev μ-loop : tie.MeasureT-loop
+μ-loop op a na b nb out₀ m₀ i₀ out m i = na - i
+
+-- the two lists, and the record of this turn
+abbrev left : tie.Start Inv-loop μ-loop → List Focal
+left c = records (c .args .na) (c .args .a .now)
+
+abbrev right : tie.Start Inv-loop μ-loop → List Focal
+right c = records (c .args .nb) (c .args .b .now)
+
+abbrev start : tie.In-loop Inv-loop μ-loop → tie.Start Inv-loop μ-loop
+start c = c .before .before .before .before .before
+
+abbrev own : tie.In-loop Inv-loop μ-loop → Focal
+own c = intervalAt (left (start c)) (c .before .loop .i)
+
+abbrev wanted : tie.Start Inv-loop μ-loop → Filled
+wanted c = fill [] (pairs (c .args .op) (left c) (right c))
+
+there : (c : tie.In-loop Inv-loop μ-loop) → c .before .loop .i < length (left (start c))
+there c = omega (arith, length-records (start c .args .na) (start c .args .a .now), c .loop-test .taken)
+
+small : (c : tie.In-loop Inv-loop μ-loop) → Under operandLimit (own c)
+small c = index-of-every noFocal (start c .pre .1 .0 .0) (c .before .loop .i) (there c)
+
+abbrev this : tie.In-loop Inv-loop μ-loop → List Focal
+this c = rowOf (start c .args .op) (own c) (right (start c))
+
+abbrev later : tie.In-loop Inv-loop μ-loop → List Focal
+later c = pairs (start c .args .op) (drop (c .before .loop .i + 1) (left (start c))) (right (start c))
+
+turn : (c : tie.In-loop Inv-loop μ-loop) → Filling (start c .args .out .now) (c .before .loop .out) (c .before .loop .m) (this c ++ later c) (wanted (start c))
+turn c =
+    subst (λ (l : List Focal). Filling (start c .args .out .now) (c .before .loop .out) (c .before .loop .m) l (wanted (start c)))
+    (pairs-next (start c .args .op) (left (start c)) (right (start c)) (c .before .loop .i) (there c)) (c .before .loop .inv .1)
+
+-- what is handed on is the record
+handed : (c : tie.After-weight-at Inv-loop μ-loop) → keyed (c .before .key-at .result) (c .weight-at .result) ≡ own (c .before .before)
+handed c =
+    let i = c .before .before in
+    let same : recordAt (start i .args .a .now) (i .before .loop .i) ≡ own i = sym (records-at (start i .args .na) (i .before .loop .i) (start i .args .a .now) (i .loop-test .taken)) in
+    (λ t. keyed ((c .before .key-at .ensures ∙ ap keyOf same) t) ((c .weight-at .ensures ∙ ap (λ (r : Focal). r .weight) same) t))
+    ∙ from-key (own i) (omega (arith, small i))
+
+loop-holds : tie.Need-loop-holds Inv-loop μ-loop
+unfolding records
+loop-holds c =
+    let s = c .before .before .before in (
+      omega arith,
+      record {
+        acc = [];
+        held = held (s .args .out .now) 0 0 (λ i. c .slice-known .given i .fits) (record { count = omega arith; room = s .pre .0 .2; ordered = InOrder.none; fits = omega arith });
+        fits = rw (weights-pairs (s .args .op) (left s) (right s), zero-add) (s .pre .1 .1);
+        goal = refl;
+      },
+    )
+
+join-row-requires : tie.Need-join-row-requires Inv-loop μ-loop
+join-row-requires c κs =
+    let w = c .before in
+    let i = w .before .before in
+    let n : Insertable (i .before .loop .out) (i .before .loop .m) (weights (this i)) = row-insertable (this i) (later i) (turn i) in (
+      subst (λ (r : Focal). Insertable (i .before .loop .out) (i .before .loop .m) (r .weight * weights (right (start i)))) (sym (handed w))
+          (rw (row-weights (start i .args .op) (own i) (right (start i))) at n),
+      (start i .pre .0 .1, (subst (Under operandLimit) (sym (handed w)) (small i), start i .pre .1 .0 .1)),
+    )
+
+-- what the row answers and leaves, of the record
+row : (c : tie.After-join-row Inv-loop μ-loop) → let i = c .before .before .before .before in
+    let l = i .before .loop in
+    (c .join-row .result ≡ fill (records (l .m) (l .out)) (this i) .count) × (c .join-row .last .1 .1 .1 .1 .1 .0 ≡ holding (l .out) (fill (records (l .m) (l .out)) (this i) .list))
+row c =
+    let w = c .before .before in
+    let i = w .before .before in
+    let l = i .before .loop in
+    let e : rowOf (start i .args .op) (keyed (w .before .key-at .result) (w .weight-at .result)) (right (start i)) ≡ this i =
+    ap (λ (x : Focal). rowOf (start i .args .op) x (right (start i))) (handed w) in (
+      c .join-row .ensures .0 ∙ ap (λ (x : List Focal). fill (records (l .m) (l .out)) x .count) e,
+      c .join-row .ensures .1 ∙ ap (λ (x : List Focal). holding (l .out) (fill (records (l .m) (l .out)) x .list)) e,
+    )
+
+abbrev turn-of : tie.After-join-row Inv-loop μ-loop → tie.In-loop Inv-loop μ-loop
+turn-of c = c .before .before .before .before
+
+row-small : (c : tie.In-loop Inv-loop μ-loop) → Every (Under speedLimit) (this c)
+row-small c = row-under (start c .args .op) (own c) (small c) (start c .pre .1 .0 .1)
+
+same-length : tie.Need-same-length Inv-loop μ-loop
+same-length c = c .before .before .before .join-row .kept .1 .1 .1 .1 .1 .0 ∙ length-now (turn (turn-of (c .before .before .before)) .held)
+
+returns : tie.Need-returns Inv-loop μ-loop
+returns c =
+    let r = c .before .before .before in
+    let i = turn-of r in
+    let d : Done (start i .args .out .now) (r .join-row .last .1 .1 .1 .1 .1 .0) (r .join-row .result) (wanted (start i)) =
+    filling-row-stop (this i) (later i) (turn i) (row-small i) (row r) (c .if1 .taken) in
+    (d .count, d .bytes)
+
+loop-again : tie.Need-loop-again Inv-loop μ-loop
+loop-again c =
+    let r = c .before .before .before in
+    let i = turn-of r in
+    (omega (arith, i .loop-test .taken), filling-row (this i) (later i) (turn i) (row-small i) (row r) (c .if1 .left))
+
+returns-2 : tie.Need-returns-2 Inv-loop μ-loop
+returns-2 c =
+    let s = c .before .before .before .before .before in
+    let e : drop (c .before .loop .i) (left s) ≡ [] = drop-of-length-le (left s) {i = c .before .loop .i} (omega (arith, length-records (s .args .na) (s .args .a .now), c .loop-test .left)) in
+    let d : Done (s .args .out .now) (c .before .loop .out) (c .before .loop .m) (wanted s) =
+    filling-done
+    (subst (λ (l : List Focal). Filling (s .args .out .now) (c .before .loop .out) (c .before .loop .m) (pairs (s .args .op) l (right s)) (wanted s)) e (c .before .loop .inv .1)) in
+    (d .count, d .bytes)
+
+pub join-lists-spec : {M : Type 1} → statement M
+join-lists-spec =
+    tie.close
+    (tie.spec
+    Inv-loop
+    μ-loop
+    loop-holds
+    (λ c κs. omega arith)
+    (λ c κs. omega arith)
+    join-row-requires
+    same-length
+    returns
+    (λ c. omega (arith, turn-of (c .before .before .before) .loop-test .taken))
+    (λ c. omega (arith, turn-of (c .before .before .before) .loop-test .taken))
+    loop-again
+    (λ c. length-now (c .before .loop .inv .1 .held))
+    returns-2)

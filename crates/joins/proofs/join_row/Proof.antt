@@ -1,0 +1,171 @@
+-- `joins::join_row` meets its contract. The invariant: what is left of the row, filled into the list so far, gives the list that is
+-- wanted. Assumes nothing.
+use mathlib.Core.Path.{_≡_, refl, sym, ap, _∙_, subst}
+use mathlib.Core.List.{List, [], _∷_}
+use Prim.Native.Nat.{ℕ, _≤_, _<_, _+_, _*_, _-_, _/_, _%_, _^_}
+use native.Mathlib.Omega.{arith}
+use lib.ListN.{length, drop, drop-of-length-le}
+use Rattle.theory.specs.Focal.{Focal, weights, noFocal}
+use Rattle.theory.specs.Joins.{joined, joinedFocal}
+use Rattle.theory.proofs.Every.{index-of-every}
+use Rattle.records.specs.Records.{keyOf, keyed, recordAt, records, intervalAt, Under, speedLimit}
+use Rattle.records.proofs.Records.{length-records, records-at, from-key}
+use Rattle.joins.specs.Filling.{Filled}
+use Rattle.joins.specs.Joins.{rowOf, filledRow, operandLimit}
+use Rattle.joins.proofs.Holding.{held, length-now, insertable}
+use Rattle.joins.proofs.Filling.{Filling, Done, fits-now, filling-step, filling-stop, filling-done}
+use Rattle.joins.proofs.Pairs.{joined-under, row-weights, row-next}
+use Rattle.joins.proofs.join_row.Statement.{statement}
+use Rattle.joins.proofs.join_row.Tie as tie
+
+abbrev Inv-loop : tie.InvT-loop
+Inv-loop op key weight b nb out₀ n low high m₀ hint₀ j₀ out m hint j =
+    (j ≤ nb) × Filling out₀ out m (rowOf op (keyed key weight) (drop j (records nb b))) (filledRow op (keyed key weight) b nb out₀ n)
+
+abbrev μ-loop : tie.MeasureT-loop
+μ-loop op key weight b nb out₀ n low high m₀ hint₀ j₀ out m hint j = nb - j
+
+-- the interval of the row, the other list, and its interval in this turn
+abbrev own : tie.Start Inv-loop μ-loop → Focal
+own c = keyed (c .args .key) (c .args .weight)
+
+abbrev others : tie.Start Inv-loop μ-loop → List Focal
+others c = records (c .args .nb) (c .args .b .now)
+
+abbrev start : tie.In-loop Inv-loop μ-loop → tie.Start Inv-loop μ-loop
+start c = c .before .before .before .before
+
+abbrev other : tie.In-loop Inv-loop μ-loop → Focal
+other c = intervalAt (others (start c)) (c .before .loop .j)
+
+abbrev pair : tie.In-loop Inv-loop μ-loop → Focal
+pair c = joinedFocal (start c .args .op) (own (start c)) (other c)
+
+abbrev wanted : tie.Start Inv-loop μ-loop → Filled
+wanted c = filledRow (c .args .op) (own c) (c .args .b .now) (c .args .nb) (c .args .out .now) (c .args .n)
+
+there : (c : tie.In-loop Inv-loop μ-loop) → c .before .loop .j < length (others (start c))
+there c = omega (arith, length-records (start c .args .nb) (start c .args .b .now), c .loop-test .taken)
+
+small : (c : tie.In-loop Inv-loop μ-loop) → Under operandLimit (other c)
+small c = index-of-every noFocal (start c .pre .1 .1 .1) (c .before .loop .j) (there c)
+
+pair-under : (c : tie.In-loop Inv-loop μ-loop) → Under speedLimit (pair c)
+pair-under c = joined-under (start c .args .op) (own (start c)) (other c) (start c .pre .1 .1 .0) (small c)
+
+same : (c : tie.In-loop Inv-loop μ-loop) → other c ≡ recordAt (start c .args .b .now) (c .before .loop .j)
+same c = records-at (start c .args .nb) (c .before .loop .j) (start c .args .b .now) (c .loop-test .taken)
+
+turn : (c : tie.In-loop Inv-loop μ-loop)
+    → Filling (start c .args .out .now) (c .before .loop .out) (c .before .loop .m)
+    (pair c ∷ rowOf (start c .args .op) (own (start c)) (drop (c .before .loop .j + 1) (others (start c)))) (wanted (start c))
+turn c =
+    subst (λ (l : List Focal). Filling (start c .args .out .now) (c .before .loop .out) (c .before .loop .m) l (wanted (start c)))
+    (row-next (start c .args .op) (own (start c)) (others (start c)) (c .before .loop .j) (there c)) (c .before .loop .inv .1)
+
+key-is : (c : tie.After-key-at Inv-loop μ-loop) → (c .key-at .result / speedLimit ≡ other (c .before) .low) × (c .key-at .result % speedLimit ≡ other (c .before) .high)
+key-is c =
+    let e : c .key-at .result ≡ keyOf (other (c .before)) = c .key-at .ensures ∙ ap keyOf (sym (same (c .before))) in
+    (omega (arith, e, small (c .before)), omega (arith, e, small (c .before)))
+
+weight-is : (c : tie.After-weight-at Inv-loop μ-loop) → c .weight-at .result ≡ other (c .before .before .before .before) .weight
+weight-is c = c .weight-at .ensures ∙ ap (λ (f : Focal). f .weight) (sym (same (c .before .before .before .before)))
+
+-- what goes in is the pair
+abbrev turn-of : tie.After-product-weight Inv-loop μ-loop → tie.In-loop Inv-loop μ-loop
+turn-of c = c .before .before .before .before .before
+
+abbrev made : tie.After-product-weight Inv-loop μ-loop → Focal
+made c = record { low = c .before .before .before .join-speeds .result; high = c .before .before .join-speeds2 .result; weight = c .product-weight .result }
+
+made-is : (c : tie.After-product-weight Inv-loop μ-loop) → made c ≡ pair (turn-of c)
+made-is c =
+    let k = key-is (c .before .before .before .before) in
+    let a = start (turn-of c) .args in
+    λ t. record {
+      low = (c .before .before .before .join-speeds .ensures ∙ ap (joined (a .op) (own (start (turn-of c)) .low)) (k .0)) t;
+      high = (c .before .before .join-speeds2 .ensures ∙ ap (joined (a .op) (own (start (turn-of c)) .high)) (k .1)) t;
+      weight = (c .product-weight .ensures ∙ ap (λ (w : ℕ). a .weight * w) (weight-is (c .before))) t;
+    }
+
+made-under : (c : tie.After-product-weight Inv-loop μ-loop) → Under speedLimit (made c)
+made-under c = subst (Under speedLimit) (sym (made-is c)) (pair-under (turn-of c))
+
+given : (c : tie.After-product-weight Inv-loop μ-loop) → keyed (keyOf (made c)) (made c .weight) ≡ pair (turn-of c)
+given c = from-key (made c) (made-under c .1) ∙ made-is c
+
+loop-holds : tie.Need-loop-holds Inv-loop μ-loop
+loop-holds c =
+    let s = c .before .before in (
+      omega arith,
+      record {
+        acc = records (s .args .n) (s .args .out .now);
+        held = held (s .args .out .now) (s .args .n) _ (λ i. c .slice-known .given i .fits) (s .pre .0);
+        fits = rw (row-weights (s .args .op) (own s) (others s)) (s .pre .0 .fits);
+        goal = refl;
+      },
+    )
+
+join-speeds-requires : tie.Need-join-speeds-requires Inv-loop μ-loop
+join-speeds-requires c κs = omega (arith, key-is c, small (c .before), start (c .before) .pre)
+
+join-speeds-requires-2 : tie.Need-join-speeds-requires-2 Inv-loop μ-loop
+join-speeds-requires-2 c κs = omega (arith, key-is (c .before), small (c .before .before), start (c .before .before) .pre)
+
+product-weight-requires : tie.Need-product-weight-requires Inv-loop μ-loop
+product-weight-requires c κs = rw (weight-is c) (omega (arith, fits-now (turn (c .before .before .before .before))))
+
+insert-requires : tie.Need-insert-requires Inv-loop μ-loop
+insert-requires c κs =
+    let p = c .before in
+    let f = turn (turn-of p) in
+    insertable (f .held) (p .product-weight .result) (subst (λ (x : Focal). weights (f .acc) + x .weight < 2 ^ 64) (sym (made-is p)) (fits-now f))
+
+same-length : tie.Need-same-length Inv-loop μ-loop
+same-length c = let n = c .before .before .before in n .insert .kept .0 ∙ length-now (turn (turn-of (n .before .before)) .held)
+
+returns : tie.Need-returns Inv-loop μ-loop
+returns c =
+    let n = c .before .before .before in
+    let i = turn-of (n .before .before) in
+    let d : Done (start i .args .out .now) (n .insert .last .0) (n .insert .result .count) (wanted (start i)) =
+    filling-stop (turn i) (pair-under i) (given (n .before .before)) (n .insert .ensures) (c .if1 .taken) in
+    (d .count, d .bytes)
+
+loop-again : tie.Need-loop-again Inv-loop μ-loop
+loop-again c =
+    let n = c .before .before .before in
+    let i = turn-of (n .before .before) in
+    (omega (arith, i .loop-test .taken), filling-step (turn i) (pair-under i) (given (n .before .before)) (n .insert .ensures) (c .if1 .left))
+
+returns-2 : tie.Need-returns-2 Inv-loop μ-loop
+returns-2 c =
+    let s = c .before .before .before .before in
+    let e : drop (c .before .loop .j) (others s) ≡ [] = drop-of-length-le (others s) {i = c .before .loop .j} (omega (arith, length-records (s .args .nb) (s .args .b .now), c .loop-test .left)) in
+    let d : Done (s .args .out .now) (c .before .loop .out) (c .before .loop .m) (wanted s) =
+    filling-done
+    (subst (λ (l : List Focal). Filling (s .args .out .now) (c .before .loop .out) (c .before .loop .m) (rowOf (s .args .op) (own s) l) (wanted s)) e (c .before .loop .inv .1)) in
+    (d .count, d .bytes)
+
+pub join-row-spec : {M : Type 1} → statement M
+join-row-spec =
+    tie.close
+    (tie.spec
+    Inv-loop
+    μ-loop
+    loop-holds
+    (λ c κs. omega arith)
+    join-speeds-requires
+    join-speeds-requires-2
+    (λ c κs. omega arith)
+    product-weight-requires
+    (λ c. omega (arith, made-under (c .before)))
+    (λ c. omega (arith, made-under (c .before)))
+    insert-requires
+    same-length
+    returns
+    (λ c. omega (arith, turn-of (c .before .before .before .before .before) .loop-test .taken))
+    (λ c. omega (arith, turn-of (c .before .before .before .before .before) .loop-test .taken))
+    loop-again
+    (λ c. length-now (c .before .loop .inv .1 .held))
+    returns-2)

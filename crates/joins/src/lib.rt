@@ -1,0 +1,191 @@
+// Lists in a store: a component's list, and the join of two lists, each put into the store's free rest.
+
+ghost use mathlib.Core.Path.{_≡_};
+ghost use mathlib.Core.List.{[]};
+ghost use Prim.Native.Nat.{_+_, _*_, _^_, _≤_, _<_};
+ghost use lib.ListN.{length};
+ghost use Rattle.theory.specs.Sums.{Every};
+ghost use Rattle.theory.specs.Focal.{listed, masses, weights};
+ghost use Rattle.theory.specs.Joins.{pairs};
+ghost use Rattle.theory.specs.Lists.{collect};
+ghost use Rattle.theory.specs.Limits.{mostHeld, recordBytes, listBytes};
+ghost use Rattle.records.specs.Records.{records, Under, speedLimit, keyed};
+ghost use Rattle.records.specs.Store.{copiedFrom, holding, holdingFrom};
+ghost use Rattle.records.specs.Insertion.{Insertable};
+ghost use Rattle.joins.specs.Filling.{fill};
+ghost use Rattle.joins.specs.Joins.{joinedAs, joinNumber, joinLength, numberOfJoin, lengthOfJoin, filledRow, joinIn, joinedStore, operandLimit, Joinable};
+use records::SPEEDS;
+use theory::Component;
+use theory::Join;
+use theory::LIST_BYTES;
+use theory::MOST_INTERVALS;
+use theory::RECORD_BYTES;
+
+// the most intervals of a short list, and its bytes
+const SHORT: usize = 16;
+
+const SHORT_BYTES: usize = RECORD_BYTES * SHORT;
+
+// What a join answers: its list's length, or that its list has more than 256 different intervals.
+pub enum Joined {
+    Made(usize),
+    Full,
+}
+
+// The product of two weights.
+fn product_weight(a: u64, b: u64) -> u64
+    requires { ⌜ a * b < 2 ^ 64 ⌝ }
+    ensures { λ r. ⌜ r ≡ a * b ⌝ }
+{
+    a * b
+}
+
+// Joins one interval with the first nb records of b, and puts the pairs into the list of the first n records of out.
+fn join_row(op: Join, key: u64, weight: u64, b: &[u8], nb: usize, out: &mut [u8], n: usize) -> usize
+    requires { ⌜ Insertable (now out) n (weight * weights (records nb (now b))) ⌝ }
+    requires { ⌜ recordBytes * nb ≤ length (now b) ⌝ }
+    requires { ⌜ Under operandLimit (keyed key weight) × Every (Under operandLimit) (records nb (now b)) ⌝ }
+    ensures { λ r. ⌜ r ≡ filledRow op (keyed key weight) (now (b .entry)) nb (now (out .entry)) n .count ⌝ }
+    ensures { λ _. ⌜ now (out .exit) ≡ holding (now (out .entry)) (filledRow op (keyed key weight) (now (b .entry)) nb (now (out .entry)) n .list) ⌝ }
+{
+    let low = key / SPEEDS;
+    let high = key % SPEEDS;
+    let mut m = n;
+    let mut hint = 0;
+    let mut j = 0;
+    while j < nb {
+        let k = records::key_at(b, j);
+        let l = theory::join_speeds(op, low, k / SPEEDS);
+        let h = theory::join_speeds(op, high, k % SPEEDS);
+        let w = product_weight(weight, records::weight_at(b, j));
+        let r = records::insert(out, m, l * SPEEDS + h, w, hint);
+        m = r.count;
+        hint = r.place;
+        if MOST_INTERVALS < m {
+            return m;
+        }
+        j += 1;
+    }
+    m
+}
+
+// Joins the first na records of a with the first nb of b: their list at the front of out, and its length, or 257 where a 257th interval
+// would be needed.
+fn join_lists(op: Join, a: &[u8], na: usize, b: &[u8], nb: usize, out: &mut [u8]) -> usize
+    requires { ⌜ (recordBytes * na ≤ length (now a)) × (recordBytes * nb ≤ length (now b)) × (listBytes ≤ length (now out)) ⌝ }
+    requires { ⌜ Every (Under operandLimit) (records na (now a)) × Every (Under operandLimit) (records nb (now b)) ⌝ }
+    requires { ⌜ weights (records na (now a)) * weights (records nb (now b)) < 2 ^ 64 ⌝ }
+    ensures { λ r. ⌜ r ≡ fill [] (pairs op (records na (now (a .entry))) (records nb (now (b .entry)))) .count ⌝ }
+    ensures { λ _. ⌜ now (out .exit) ≡ holding (now (out .entry)) (fill [] (pairs op (records na (now (a .entry))) (records nb (now (b .entry)))) .list) ⌝ }
+{
+    let mut m = 0;
+    let mut i = 0;
+    while i < na {
+        let key = records::key_at(a, i);
+        m = join_row(op, key, records::weight_at(a, i), b, nb, out, m);
+        if MOST_INTERVALS < m {
+            return m;
+        }
+        i += 1;
+    }
+    m
+}
+
+// Joins two lists of a store into its free rest: na records from byte `left` on and nb from byte `right` on, copied first to the front
+// of a and of b.
+fn join_copied(
+    op: Join,
+    a: &mut [u8],
+    b: &mut [u8],
+    store: &mut [u8],
+    left: usize,
+    na: usize,
+    right: usize,
+    nb: usize,
+    free: usize,
+) -> Joined
+    requires { ⌜ (recordBytes * na ≤ length (now a)) × (recordBytes * nb ≤ length (now b)) ⌝ }
+    requires { ⌜ Joinable (now store) left na right nb free ⌝ }
+    ensures { λ r. ⌜ r ≡ joinedAs (joinIn op (now (store .entry)) left na right nb) ⌝ }
+    ensures { λ r. ⌜ joinNumber r ≡ numberOfJoin (joinIn op (now (store .entry)) left na right nb) ⌝ }
+    ensures { λ r. ⌜ joinLength r ≡ lengthOfJoin (joinIn op (now (store .entry)) left na right nb) ⌝ }
+    ensures { λ _. ⌜ now (store .exit) ≡ joinedStore op (now (store .entry)) left na right nb free ⌝ }
+    ensures { λ _. ⌜ now (a .exit) ≡ copiedFrom (now (store .entry)) left (recordBytes * na) (now (a .entry)) ⌝ }
+    ensures { λ _. ⌜ now (b .exit) ≡ copiedFrom (now (store .entry)) right (recordBytes * nb) (now (b .entry)) ⌝ }
+{
+    let left_end = left + RECORD_BYTES * na;
+    let right_end = right + RECORD_BYTES * nb;
+    bytes::copy(&store[left..left_end], a);
+    bytes::copy(&store[right..right_end], b);
+    let n = join_lists(op, a, na, b, nb, &mut store[free..]);
+    if n <= MOST_INTERVALS {
+        Joined::Made(n)
+    } else {
+        Joined::Full
+    }
+}
+
+// Joins two lists of a store into its free rest: na records from byte `left` on and nb from byte `right` on. Short lists take little
+// room.
+pub fn join_in_store(
+    op: Join,
+    store: &mut [u8],
+    left: usize,
+    na: usize,
+    right: usize,
+    nb: usize,
+    free: usize,
+) -> Joined
+    requires { ⌜ Joinable (now store) left na right nb free ⌝ }
+    ensures { λ r. ⌜ r ≡ joinedAs (joinIn op (now (store .entry)) left na right nb) ⌝ }
+    ensures { λ r. ⌜ joinNumber r ≡ numberOfJoin (joinIn op (now (store .entry)) left na right nb) ⌝ }
+    ensures { λ r. ⌜ joinLength r ≡ lengthOfJoin (joinIn op (now (store .entry)) left na right nb) ⌝ }
+    ensures { λ _. ⌜ now (store .exit) ≡ joinedStore op (now (store .entry)) left na right nb free ⌝ }
+{
+    if na <= SHORT {
+        if nb <= SHORT {
+            let mut a = [0u8; SHORT_BYTES];
+            let mut b = [0u8; SHORT_BYTES];
+            return join_copied(op, &mut a, &mut b, store, left, na, right, nb, free);
+        }
+    }
+    let mut a = [0u8; LIST_BYTES];
+    let mut b = [0u8; LIST_BYTES];
+    join_copied(op, &mut a, &mut b, store, left, na, right, nb, free)
+}
+
+fn wide(x: u16) -> u64
+    ensures { λ r. ⌜ (r ≡ x) × (r < speedLimit) ⌝ }
+{
+    x as u64
+}
+
+// Builds the list of what a component lists at the front of out.
+fn put_listed(c: Component, out: &mut [u8]) -> usize
+    requires { ⌜ (c .count ≤ mostHeld) × (listBytes ≤ length (now out)) ⌝ }
+    ensures { λ r. ⌜ r ≡ length (collect (listed c)) ⌝ }
+    ensures { λ _. ⌜ now (out .exit) ≡ holding (now (out .entry)) (collect (listed c)) ⌝ }
+{
+    let lows = c.lows;
+    let highs = c.highs;
+    let weights = c.weights;
+    let count = c.count;
+    let mut m = 0;
+    let mut i = 0;
+    while i < count {
+        let key = wide(lows[i]) * SPEEDS + wide(highs[i]);
+        let r = records::insert(out, m, key, wide(weights[i]), m);
+        m = r.count;
+        i += 1;
+    }
+    m
+}
+
+// Builds the list of a component's mass assignment in the free rest of a store.
+pub fn put_in_store(c: Component, store: &mut [u8], free: usize) -> usize
+    requires { ⌜ (c .count ≤ mostHeld) × (free + listBytes ≤ length (now store)) ⌝ }
+    ensures { λ r. ⌜ r ≡ length (collect (masses c)) ⌝ }
+    ensures { λ _. ⌜ now (store .exit) ≡ holdingFrom (now (store .entry)) free (collect (masses c)) ⌝ }
+{
+    put_listed(c, &mut store[free..])
+}
