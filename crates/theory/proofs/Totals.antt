@@ -83,9 +83,9 @@ module _ {m n : ℕ} (op : Join) {l r : List Focal} (p : Fits m l) (q : Fits n r
   pub fits-join : Fits (m + n) (joinLists op l r)
   fits-join = fits-collect fits-pairs
 
-  -- the product of two weights fits 64 bits, and so does any sum of them
-  pub fits-product : m + n ≤ mostComponents → weights l * weights r < 2 ^ 64
-  fits-product = thousands (weights l) (weights r) m n (p .sum) (q .sum)
+-- the weights of a join's list fit 64 bits
+pub fits-product : {m n : ℕ} {l r : List Focal} → Fits m l → Fits n r → m + n ≤ mostComponents → weights l * weights r < 2 ^ 64
+fits-product {m} {n} {l} {r} p q = thousands (weights l) (weights r) m n (p .sum) (q .sum)
 
 module _ {m : ℕ} {l : List Focal} (p : Fits m l) (h : m ≤ mostComponents) where
   -- speeds fit 15 bits, so that the speeds of a join fit 16
@@ -95,21 +95,22 @@ module _ {m : ℕ} {l : List Focal} (p : Fits m l) (h : m ≤ mostComponents) wh
   pub fits-weights : weights l < 2 ^ 64
   fits-weights = omega (arith, thousands (weights l) 1 m 0 (p .sum) (le-of-eq (sym (pow-zero mostTotal))) (omega arith))
 
+module _ (c : Component) (range : Every InRange (masses c)) (small : weights (masses c) ≤ mostTotal) where
+  fits-masses : Fits 1 (masses c)
+  fits-masses = record { speeds = range; sum = omega arith }
+
+  pub fits-leaf : Fits 1 (collect (masses c))
+  fits-leaf = fits-collect fits-masses
+
 -- components of an accepted sheet
 module _ {cs : List Component} (range : AllInRange cs) (balanced : Balanced cs) (totals : Every (λ c. c .total ≤ mostTotal) cs) where
-  fits-masses : (i : ℕ) → Fits 1 (masses (getD cs i noComponent))
-  fits-masses i =
-      let e : weights (masses (getD cs i noComponent)) ≡ (getD cs i noComponent) .total = every-getD (λ c. weights (masses c) ≡ c .total) noComponent refl balanced i in
-      record {
-        speeds = every-getD (λ c. Every InRange (masses c)) noComponent Every.none range i;
-        sum = omega (arith, every-getD (λ c. c .total ≤ mostTotal) noComponent (omega arith) totals i);
-      }
-
-  pub fits-leaf : (i : ℕ) → Fits 1 (collect (masses (getD cs i noComponent)))
-  fits-leaf i = fits-collect (fits-masses i)
+  fits-at : (c : Component) → Every InRange (masses c) → weights (masses c) ≡ c .total → c .total ≤ mostTotal → Fits 1 (masses c)
+  fits-at c r e h = fits-masses c r (omega arith)
 
   fits-tree : (t : Tree) → Fits (length (leaves t)) (outcomesOf cs t)
-  fits-tree (leaf i) = fits-masses i
+  fits-tree (leaf i) =
+      fits-at (getD cs i noComponent) (every-getD (λ c. Every InRange (masses c)) noComponent Every.none range i)
+      (every-getD (λ c. weights (masses c) ≡ c .total) noComponent refl balanced i) (every-getD (λ c. c .total ≤ mostTotal) noComponent (omega arith) totals i)
   fits-tree (node op l r) = rw (length-append (leaves l) (leaves r)) (fits-pairs op (fits-tree l) (fits-tree r))
 
   -- the drive's list of a structure that names each component once
