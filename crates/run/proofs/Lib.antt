@@ -1,5 +1,5 @@
 -- What is proved of the run's definitions.
 pub mod Entries
-pub mod Fits
+pub mod Stacked
 pub mod Placing
 pub mod Running

@@ -1,27 +1,31 @@
 -- A list that is put behind the lists of a stack: the others stay as they were, and it stands on top. Assumes nothing.
 use Prim.Native.Nat.{ℕ, zero, suc, _+_, _-_, _*_, _^_, _≤_, _<_}
 use mathlib.Core.Path.{_≡_, refl, ap, ap₂, _∙_}
-use mathlib.Core.List.{List, [], _∷_, _++_}
+use mathlib.Core.List.{List, [], _∷_}
 use native.Mathlib.Numerals.{add-one}
 use native.Mathlib.Decide.{ℕ-discrete}
 use native.Mathlib.Omega.{arith}
-use lib.ListN.{length, getD, set, take, drop, replicate, length-set}
+use lib.ListN.{length, getD, set, drop, length-set}
 use lib.Seq.{getD-set-same, getD-set-other}
 use Rattle.theory.specs.Sums.{Every}
 use Rattle.theory.specs.Focal.{Focal, weights}
-use Rattle.theory.specs.Limits.{mostIntervals, mostComponents, listBytes}
-use Rattle.lists.specs.Records.{Under, speedLimit}
-use Rattle.lists.specs.Building.{listIn, holdingFrom, settled}
-use Rattle.lists.proofs.Store.{length-from, fresh, frame, behind}
+use Rattle.theory.specs.Limits.{mostIntervals, mostComponents, recordBytes, listBytes}
+use Rattle.records.specs.Records.{Under, speedLimit}
+use Rattle.records.specs.Store.{listIn, holdingFrom, zeroed, settled}
+use Rattle.records.proofs.Store.{length-from, listIn-from, listIn-before, drop-from}
 use Rattle.run.specs.declared.Stack.{Stack}
-use Rattle.run.specs.Stack.{listsBelow, Apart, withList}
+use Rattle.run.specs.Stack.{listsBelow, withList}
 use Rattle.run.specs.Run.{filled, cleared}
+
+-- the lists of a stack lie before the free rest of the store, and none is too long
+abbrev pub Apart : Stack → Type 0
+Apart st = (k : ℕ) → k < st .depth → (getD (st .starts) k 0 + recordBytes * getD (st .counts) k 0 ≤ st .free) × (getD (st .counts) k 0 ≤ mostIntervals)
 
 -- where the lists of a stack stand in a store whose bytes behind the first `size` were those of store₀
 pub record Stored (size : ℕ) (store₀ store : List ℕ) (st : Stack) : Type 0 where
   pub starts : length (st .starts) ≡ mostComponents
   pub counts : length (st .counts) ≡ mostComponents
-  pub apart : Apart st (st .depth)
+  pub apart : Apart st
   pub same-length : length store ≡ length store₀
   pub later : drop size store ≡ drop size store₀
 
@@ -51,13 +55,13 @@ module _ {size : ℕ} {store₀ store : List ℕ} {st : Stack} (S : Stored size 
   below-same (suc e) h =
       ap₂ _∷_
       (ap₂ (listIn (holdingFrom store (st .free) l)) (start-below e (λ q. omega arith)) (count-below e (λ q. omega arith))
-      ∙ frame store (st .free) l (getD (st .starts) e 0) (getD (st .counts) e 0) inside (S .apart e (omega arith) .0))
+      ∙ listIn-before store (st .free) l (getD (st .starts) e 0) (getD (st .counts) e 0) inside (S .apart e (omega arith) .0))
       (below-same e (omega arith))
 
   pub on-top : Every (Under speedLimit) l × (weights l < 2 ^ 64) → listsBelow (holdingFrom store (st .free) l) next (d + 1) ≡ l ∷ listsBelow store st d
   on-top u =
       ap (listsBelow (holdingFrom store (st .free) l) next) (add-one d)
-      ∙ ap₂ _∷_ (ap₂ (listIn (holdingFrom store (st .free) l)) start-top count-top ∙ fresh store (st .free) l inside (u .0) (u .1)) (below-same d (omega arith))
+      ∙ ap₂ _∷_ (ap₂ (listIn (holdingFrom store (st .free) l)) start-top count-top ∙ listIn-from store (st .free) l inside (u .0) (u .1)) (below-same d (omega arith))
 
   pub stored-next : Stored size store₀ (holdingFrom store (st .free) l) next
   stored-next = record {
@@ -68,12 +72,12 @@ module _ {size : ℕ} {store₀ store : List ℕ} {st : Stack} (S : Stored size 
       | no e ↦ omega (arith, start-below k e, count-below k e, S .apart k (omega arith))
     ];
     same-length = length-from store (st .free) l (omega (arith, S .same-length)) ∙ S .same-length;
-    later = behind store (st .free) l size (omega arith) inside ∙ S .later;
+    later = drop-from store (st .free) l size (omega arith) inside ∙ S .later;
   }
 
 -- what the end of a run makes of the first n bytes
 module _ {size n : ℕ} (q : size ≡ n) (x s after : List ℕ) (d : drop n x ≡ drop n s) where
-  pub clears : after ≡ take 0 x ++ (replicate (size - 0) 0 ++ drop size x) → after ≡ cleared n s
+  pub clears : after ≡ zeroed x 0 size → after ≡ cleared n s
   clears e =
       let z : n - 0 ≡ n = omega arith in
       e ∙ rw (q, z, d)

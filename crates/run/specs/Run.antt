@@ -6,7 +6,7 @@ use Rattle.theory.specs.Focal.{Focal, masses}
 use Rattle.theory.specs.Lists.{collect, noComponent}
 use Rattle.theory.specs.Evaluation.{Evaluation, completed, refused, walkLists}
 use Rattle.theory.specs.Limits.{storeBytes}
-use Rattle.lists.specs.Building.{settled}
+use Rattle.records.specs.Store.{settled}
 use Rattle.sheet.specs.declared.Plan.{Plan}
 use Rattle.sheet.specs.Plan.{componentsOf, entriesOf}
 use Rattle.run.specs.declared.Ran.{Ran}

@@ -7,7 +7,7 @@ ghost use Rattle.sheet.specs.Plan.{entryOf};
 ghost use Rattle.sheet.specs.Kept.{Kept};
 ghost use Rattle.run.specs.Stack.{emptyStack, withList, Pushable, pushed, pushedStore, Applicable, joinStep, joinStore};
 ghost use Rattle.run.specs.Run.{storeFor, needed, walked, ranOf, storeOf};
-use lists::Joined;
+use joins::Joined;
 use sheet::Plan;
 use theory::Component;
 use theory::Entry;
@@ -90,7 +90,7 @@ fn push(c: Component, stack: Stack, store: &mut [u8]) -> Stack
     let free = stack.free;
     let depth = stack.depth;
     let pairs = stack.pairs;
-    let n = lists::put_in_store(c, store, free);
+    let n = joins::put_in_store(c, store, free);
     with_list(stack, depth, free, n, pairs)
 }
 
@@ -112,7 +112,7 @@ fn apply(op: Join, stack: Stack, store: &mut [u8], allowance: u32) -> Step
     if (allowance as u64) < spent {
         return Step { number: 13, stack };
     }
-    let r = lists::join_in_store(op, store, a, na, b, nb, free);
+    let r = joins::join_in_store(op, store, a, na, b, nb, free);
     match r {
         Joined::Made(n) => {
             let q = with_list(stack, i, free, n, spent);
@@ -148,7 +148,7 @@ pub fn run_plan(p: Plan, allowance: u32, store: &mut [u8]) -> Ran
             Entry::Join(op) => {
                 let s = apply(op, stack, store, allowance);
                 if s.number != 0 {
-                    lists::clear(store, 0, size);
+                    records::clear(store, 0, size);
                     return Ran {
                         number: s.number,
                         pairs: 0,
@@ -163,7 +163,7 @@ pub fn run_plan(p: Plan, allowance: u32, store: &mut [u8]) -> Ran
     }
     let start = stack.starts[0];
     let count = stack.counts[0];
-    lists::settle(store, start, count, size);
+    records::settle(store, start, count, size);
     Ran {
         number: 0,
         pairs: stack.pairs,

@@ -1,17 +1,16 @@
 -- `run::apply` meets its contract: 13, 14, or the join's list on the stack. Assumes nothing.
 use mathlib.Core.Path.{_≡_, sym, ap, _∙_}
 use mathlib.Core.List.{List}
-use Prim.Native.Nat.{_≤_, _+_, _*_, _-_}
+use Prim.Native.Nat.{_≤_, _*_, _-_}
 use native.Mathlib.Nat.{mul-le-mul}
 use native.Mathlib.Omega.{arith}
-use lib.ListN.{length, getD}
+use lib.ListN.{length}
 use borrow.Author.Tests.{lt-ltb, le-ltb}
 use Rattle.theory.specs.Focal.{Focal}
-use Rattle.theory.specs.Lists.{joinLists}
-use Rattle.theory.specs.Limits.{mostIntervals, recordBytes}
-use Rattle.lists.proofs.Store.{made-inv, full-inv}
+use Rattle.theory.specs.Limits.{mostIntervals}
+use Rattle.joins.proofs.Answer.{made-inv, full-inv}
 use Rattle.run.specs.declared.Stack.{Stack}
-use Rattle.run.specs.Stack.{left, right, spent, withList}
+use Rattle.run.specs.Stack.{topCount, topJoined, spent, withList}
 use borrow.Author.Needs.{needs}
 use Rattle.run.proofs.apply.Statement.{statement}
 use Rattle.run.proofs.apply.Tie as tie
@@ -20,18 +19,11 @@ module _ (s : tie.Start) where
   abbrev st : Stack
   st = s .args .t2
 
-  -- the two topmost lists lie before the free rest, and are not too long
-  left-apart : (getD (st .starts) (st .depth - 2) 0 + recordBytes * getD (st .counts) (st .depth - 2) 0 ≤ st .free) × (getD (st .counts) (st .depth - 2) 0 ≤ mostIntervals)
-  left-apart = s .pre .apart (st .depth - 2) (omega (arith, s .pre .two))
-
-  right-apart : (getD (st .starts) (st .depth - 1) 0 + recordBytes * getD (st .counts) (st .depth - 1) 0 ≤ st .free) × (getD (st .counts) (st .depth - 1) 0 ≤ mostIntervals)
-  right-apart = s .pre .apart (st .depth - 1) (omega (arith, s .pre .two))
-
-  formed : getD (st .counts) (st .depth - 2) 0 * getD (st .counts) (st .depth - 1) 0 ≤ 65536
-  formed = mul-le-mul (left-apart .1) (right-apart .1)
+  formed : topCount st 2 * topCount st 1 ≤ 65536
+  formed = mul-le-mul (s .pre .joinable .first .count) (s .pre .joinable .second .count)
 
   abbrev list : List Focal
-  list = joinLists (s .args .op) (left (s .args .store .now) st) (right (s .args .store .now) st)
+  list = topJoined (s .args .op) (s .args .store .now) st
 
 abbrev start : tie.After-nb → tie.Start
 start c = c .before .before .before .before .before
@@ -49,14 +41,7 @@ returns c =
     (rw e, rw e)
 
 join-in-store-requires : tie.Need-join-in-store-requires
-join-in-store-requires c κs =
-    let s = start (c .before .before) in (
-      (left-apart s .1, right-apart s .1),
-      (
-        (omega (arith, left-apart s, s .pre .room), omega (arith, right-apart s, s .pre .room), s .pre .room),
-        (s .pre .speeds, (s .pre .positive, s .pre .weights-fit)),
-      ),
-    )
+join-in-store-requires c κs = start (c .before .before) .pre .joinable
 
 -- a join that is made
 abbrev begun : tie.After-known-told → tie.Start
@@ -74,10 +59,9 @@ returns-2 c =
     let s = begun k in
     let n = counts k in
     let a = le-ltb (s .args .allowance) (spent (st s)) (k .before .before .before .before .before .before .before .if1 .left) in
-    let b = le-ltb mostIntervals (length (list s)) (n .1) in (
-      rw (a, b) (ap (λ (q : Stack). record { number = 0; stack = q }) (c .with-list .ensures ∙ ap (λ m. withList (st s) (st s .depth - 2) (st s .free) m (spent (st s))) (n .0))),
-      rw a (k .before .before .before .before .before .join-in-store .ensures .1 .1 .1),
-    )
+    let b = le-ltb mostIntervals (length (list s)) (n .1) in
+    let q = c .with-list .ensures ∙ ap (λ m. withList (st s) (st s .depth - 2) (st s .free) m (spent (st s))) (n .0) in
+    (rw (a, b) (ap (λ (t : Stack). record { number = 0; stack = t }) q), rw a (k .before .before .before .before .before .join-in-store .ensures .1 .1 .1))
 
 returns-3 : tie.Need-returns-3
 returns-3 c =

@@ -2,7 +2,7 @@
 use mathlib.Core.Path.{ap, _∙_}
 use native.Mathlib.Omega.{arith}
 use Rattle.run.specs.Stack.{withList}
-use Rattle.run.proofs.Fits.{length-leaf}
+use Rattle.run.proofs.Stacked.{length-leaf}
 use borrow.Author.Needs.{needs}
 use Rattle.run.proofs.push.Statement.{statement}
 use Rattle.run.proofs.push.Tie as tie

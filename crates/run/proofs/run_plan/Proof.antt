@@ -9,7 +9,7 @@ use lib.ListN.{length, getD, drop, drop-of-length-le}
 use Rattle.theory.specs.Limits.{entryCount}
 use Rattle.theory.specs.declared.Entry.{Entry}
 use Rattle.theory.specs.declared.Entry.the-variants.{Component as component, Join as join}
-use Rattle.lists.proofs.Records.{length-records}
+use Rattle.records.proofs.Records.{length-records}
 use Rattle.sheet.specs.declared.Plan.{Plan}
 use Rattle.sheet.specs.Plan.{entriesOf}
 use Rattle.sheet.specs.Kept.{Kept}

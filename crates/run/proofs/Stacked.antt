@@ -1,0 +1,43 @@
+-- The lists of a stack, each over some components: speeds and weights stay below bounds that go by their number. Assumes nothing.
+use Prim.Native.Nat.{ℕ, _+_, _^_, _≤_, _<_}
+use mathlib.Core.Path.{_≡_}
+use mathlib.Core.List.{List, [], _∷_}
+use native.Mathlib.Omega.{arith}
+use lib.ListN.{length, length-map}
+use Rattle.theory.specs.Sums.{countFrom, Every}
+use Rattle.theory.specs.Focal.{Focal, focalAt, masses, weights}
+use Rattle.theory.specs.Lists.{collect, Fits}
+use Rattle.theory.specs.Limits.{mostComponents}
+use Rattle.theory.specs.declared.Component.{Component}
+use Rattle.theory.proofs.Every.{every-map}
+use Rattle.theory.proofs.Sums.{length-count}
+use Rattle.theory.proofs.Lists.{length-collect}
+use Rattle.theory.proofs.Totals.{fits-speeds, fits-weights}
+use Rattle.records.specs.Records.{Under, speedLimit}
+
+-- the lists of a stack, over k components together
+pub data Stacked : ℕ → List (List Focal) → Type 0 where
+  none : Stacked 0 []
+  more : {k m n : ℕ} {l : List Focal} {ls : List (List Focal)} → Fits m l → Stacked n ls → k ≡ m + n → Stacked k (l ∷ ls)
+
+-- the two topmost, over m and n components, and the others
+pub record Topmost (k : ℕ) (x y : List Focal) (ls : List (List Focal)) : Type 0 where
+  pub m : ℕ
+  pub n : ℕ
+  pub others : ℕ
+  pub fits-left : Fits m x
+  pub fits-right : Fits n y
+  pub stacked : Stacked others ls
+  pub together : k ≡ m + n + others
+
+pub topmost : {k : ℕ} {x y : List Focal} {ls : List (List Focal)} → Stacked k (y ∷ x ∷ ls) → Topmost k x y ls
+topmost (more {m = n} g (more {m = m} {n = others} f s a) b) =
+    record { m = m; n = n; others = others; fits-left = f; fits-right = g; stacked = s; together = omega arith }
+
+-- a list over up to six components fits records
+pub fits-record : {m : ℕ} {l : List Focal} → Fits m l → m ≤ mostComponents → Every (Under speedLimit) l × (weights l < 2 ^ 64)
+fits-record f h = (every-map (λ x r. (omega (arith, r .0), omega (arith, r .1))) (fits-speeds f h), fits-weights f h)
+
+-- a component's list is no longer than what the sheet lists
+pub length-leaf : (c : Component) → length (collect (masses c)) ≤ c .count
+length-leaf c = omega (arith, length-collect (masses c), length-map (countFrom 0 (c .count)) (focalAt c), length-count 0 (c .count))
