@@ -16,13 +16,11 @@ use Rattle.theory.specs.Focal.{Focal, total}
 use Rattle.theory.specs.Bounds.{Bounds}
 use Rattle.theory.proofs.Every.{every-map}
 use Rattle.theory.proofs.Method.{Leaves}
-use Rattle.theory.proofs.Collect.{order-collect, weightAt-collect}
-use Rattle.theory.proofs.Lists.{belief-collect, plausibility-collect}
-use Rattle.theory.proofs.Totals.{weights-driveList, product-le}
+use Rattle.theory.proofs.Collect.{order-collect, weightAt-collect, belief-collect, plausibility-collect}
+use Rattle.theory.proofs.Totals.{weights-driveList, total-le}
 use Rattle.theory.proofs.Range.{spans-choices}
 use Rattle.theory.proofs.Bounds.{bounds}
-use Rattle.lists.specs.Records.{records}
-use Rattle.lists.proofs.Store.{front}
+use Rattle.records.proofs.Store.{settled-list}
 use Rattle.sheet.specs.declared.Plan.{Plan}
 use Rattle.sheet.specs.Tests.{firstBroken}
 use Rattle.sheet.specs.Kept.{Kept}
@@ -144,17 +142,17 @@ module _ (s : List ℕ) (demand allowance : ℕ) (store : List ℕ) (e : (answer
       let total-is : (answered s demand allowance store) .total ≡ total (components s) = ap (λ (x : Answer). x .total) a in
       let n : (answered s demand allowance store) .intervals ≡ length l = ap (λ (x : Answer). x .intervals) a in
       let is : after s demand allowance store ≡ filled (needed (planOf s)) l store = demand-1 s demand allowance store .store-accepted e in
-      let fits = drive-fits keeps leaves in
+      let fits = drive-fits keeps in
       let six : length (components s) ≤ mostComponents = omega (arith, components-count (planOf s), keeps .most) in
       record {
         total-is = total-is;
         belief-is = ap (λ (x : Answer). x .belief) a;
         plausibility-is = ap (λ (x : Answer). x .plausibility) a;
-        total-most = rw total-is (le-trans (product-le (λ c. c .total) mostTotal (every-map (λ c t. t .1) (keeps .totals))) (pow-le-pow-right {n = mostTotal} (omega arith) six));
+        total-most = rw total-is (le-trans (total-le (every-map (λ c t. t .1) (keeps .totals))) (pow-le-pow-right {n = mostTotal} (omega arith) six));
         spans = spans-choices (structure s) (keeps .inRange);
         list-length = n;
         list-is = is;
-        list-read = rw (n, is) (front (needed (planOf s)) store (fits .0) (fits .1));
+        list-read = rw (n, is) (settled-list (needed (planOf s)) store (fits .0) (fits .1));
         list-ordered = order-collect every;
         list-weight = λ low high. weightAt-collect low high every;
         list-weights = weights-driveList (keeps .balanced) (structure s) ∙ sym total-is;

@@ -1,5 +1,5 @@
 -- From the run of a plan to the answer of a call: the list that the run leaves is the drive's, and is read back from the store. Assumes nothing.
-use Prim.Native.Nat.{ℕ, zero, suc, _*_, _^_, _≤_, _<_}
+use Prim.Native.Nat.{ℕ, zero, suc, _+_, _*_, _^_, _≤_, _<_}
 use mathlib.Core.Path.{_≡_, refl, sym, ap, _∙_}
 use mathlib.Core.Bool.{cond, _||_}
 use mathlib.Core.Logic.{_⊎_, inl, inr}
@@ -12,22 +12,20 @@ use Rattle.theory.specs.Sums.{Every}
 use Rattle.theory.specs.Focal.{Focal, weights, total}
 use Rattle.theory.specs.declared.Component.{Component}
 use Rattle.theory.specs.declared.Entry.{Entry}
-use Rattle.theory.specs.Structure.{Tree, leaves}
+use Rattle.theory.specs.Structure.{NamedOnce, Tree}
 use Rattle.theory.specs.Choices.{outcomes, belief, plausibility}
 use Rattle.theory.specs.Lists.{driveList, listOf}
 use Rattle.theory.specs.Evaluation.{Evaluation, completed, refused, evaluate}
 use Rattle.theory.specs.Limits.{recordBytes}
 use Rattle.theory.proofs.Every.{every-map}
-use Rattle.theory.proofs.Lists.{belief-collect, plausibility-collect}
-use Rattle.theory.proofs.Method.{Leaves, method}
-use Rattle.theory.proofs.Structure.{named-length, leafCount, run-leaves}
-use Rattle.theory.proofs.Totals.{speeds-fit, weight-fits}
-use Rattle.theory.proofs.Walk.{image, evaluate-lists, evaluate-refused}
-use Rattle.lists.specs.declared.Shares.{Shares}
-use Rattle.lists.specs.Records.{encode, records, Under, speedLimit}
-use Rattle.lists.specs.Building.{sharesOf}
-use Rattle.lists.proofs.Records.{length-encode}
-use Rattle.lists.proofs.Store.{front}
+use Rattle.theory.proofs.Collect.{belief-collect, plausibility-collect}
+use Rattle.theory.proofs.Method.{image, evaluate-lists, evaluate-refused, Leaves, method}
+use Rattle.theory.proofs.Totals.{fits-drive}
+use Rattle.records.specs.declared.Shares.{Shares}
+use Rattle.records.specs.Records.{encode, records, Under, speedLimit}
+use Rattle.records.specs.Shares.{sharesOf}
+use Rattle.records.proofs.Records.{length-encode}
+use Rattle.records.proofs.Store.{settled-list}
 use Rattle.sheet.specs.declared.Plan.{Plan}
 use Rattle.sheet.specs.Tests.{firstBroken}
 use Rattle.sheet.specs.Plan.{componentsOf, entriesOf}
@@ -36,6 +34,7 @@ use Rattle.sheet.proofs.Theorems.{read-keeps}
 use Rattle.run.specs.declared.Ran.{Ran}
 use Rattle.run.specs.Run.{needed, walked, ranOf, filled, cleared, storeOf}
 use Rattle.run.proofs.Entries.{components-count}
+use Rattle.run.proofs.Stacked.{fits-record}
 use Rattle.evaluate.specs.Answer.{planOf, components, structure, callTests, evaluated, ending, refusal, answer}
 use Rattle.evaluate.specs.Store.{storeAfter}
 use Rattle.evaluate.proofs.Numbers.{tests-most, tests-say, answered-by, stored-by}
@@ -54,11 +53,14 @@ module _ {p : Plan} (K : Kept p) where
   abbrev es : List Entry
   es = entriesOf p
 
+  entries-are : length es + 1 ≡ 2 * length cs
+  entries-are = K .entries ∙ ap (2 *_) (sym (components-count p))
+
+  each-once : NamedOnce (length cs) es
+  each-once i = K .namedOnce i ∙ ap (λ n. cond (ltb i n) 1 0) (sym (components-count p))
+
   pub leaves-by : (allowance : ℕ) (stack : List Tree) (pairs : ℕ) → evaluate cs allowance es ≡ completed stack pairs → Leaves cs es stack pairs
-  leaves-by allowance = method (K .positive) allowance es (K .entries ∙ ap (2 *_) (sym (components-count p))) (λ i. K .namedOnce i ∙ named i) (K .findTwo)
-    where
-      named : (i : ℕ) → _≡_ {A = ℕ} (cond (ltb i (p .count)) 1 0) (cond (ltb i (length cs)) 1 0)
-      named i = ap (λ n. cond (ltb i n) 1 0) (sym (components-count p))
+  leaves-by allowance = method (K .positive) allowance es entries-are each-once (K .findTwo)
 
   pub run-ends : (allowance : ℕ) → Ends cs es (walked p allowance) (evaluate cs allowance es)
   unfolding walked
@@ -72,12 +74,10 @@ module _ {p : Plan} (K : Kept p) where
           rw one (leaves-one L)
 
   -- the numbers of the drive's list fit records
-  pub drive-fits : {stack : List Tree} {pairs : ℕ} → Leaves cs es stack pairs → Every (Under speedLimit) (driveList es cs) × (weights (driveList es cs) < 2 ^ 64)
-  drive-fits L =
-      let few : length (leaves (L .tree)) ≤ 6 = omega (arith, run-leaves es [], ap leafCount (L .built), named-length (p .count) es (K .namedOnce), K .most) in (
-        rw (L .list) at (every-map {Q = Under speedLimit} (λ f q. (omega (arith, q .0), omega (arith, q .1))) (speeds-fit (K .inRange) (L .tree) few)),
-        rw (L .list) at (weight-fits (every-map (λ c q. q .1) (K .totals)) (K .balanced) (L .tree) few),
-      )
+  pub drive-fits : Every (Under speedLimit) (driveList es cs) × (weights (driveList es cs) < 2 ^ 64)
+  drive-fits =
+      fits-record (fits-drive (K .inRange) (K .balanced) (every-map (λ c q. q .1) (K .totals)) (K .positive) es entries-are each-once (K .findTwo))
+      (omega (arith, components-count p, K .most))
 
 -- a list that a store holds takes its records' bytes
 filled-room : (size : ℕ) (l : List Focal) (s : List ℕ) → recordBytes * length l ≤ length (filled size l s)
@@ -142,8 +142,8 @@ module _ (s : List ℕ) (demand allowance : ℕ) (store : List ℕ) where
       go (leaves-one {stack = stack} {pairs = pairs} L) q e f =
           let m : r .intervals ≡ length list = ap (λ (y : Ran). y .intervals) e in
           let u : ending s allowance (length store) ≡ completed stack pairs = rw (z, q) in
-          let fits = drive-fits (plan-keeps z) L in
-          let back : records (r .intervals) x ≡ list = rw (m, f) (front (needed (planOf s)) store (fits .0) (fits .1)) in
+          let fits = drive-fits (plan-keeps z) in
+          let back : records (r .intervals) x ≡ list = rw (m, f) (settled-list (needed (planOf s)) store (fits .0) (fits .1)) in
           record {
             stored = f ∙ sym (stored-by s allowance store u);
             refuses = λ h. absurd (h (ap (λ (y : Ran). y .number) e));

@@ -14,7 +14,7 @@ use Rattle.theory.specs.Structure.{Tree}
 use Rattle.theory.specs.Lists.{driveList}
 use Rattle.theory.specs.Evaluation.{Evaluation, completed, refused}
 use Rattle.theory.proofs.Every.{every-map}
-use Rattle.theory.proofs.Walk.{evaluate-refused}
+use Rattle.theory.proofs.Method.{evaluate-refused}
 use Rattle.sheet.specs.declared.Plan.{Plan}
 use Rattle.sheet.specs.declared.Reading.{Reading}
 use Rattle.sheet.specs.Tests.{Test, test, firstBroken, outside, some}

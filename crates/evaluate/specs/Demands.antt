@@ -2,21 +2,20 @@
 -- `writtenOf`, `bytesAfter`. They are proved in proofs/Demands.antt. Assumes nothing.
 use Prim.Native.Nat.{ℕ, _^_, _≤_, _<_}
 use mathlib.Core.Path.{_≡_}
-use mathlib.Core.Bool.{true, false, cond, _&&_}
+use mathlib.Core.Bool.{true, false}
 use mathlib.Core.Logic.{_⊎_, _↔_}
 use mathlib.Core.List.{List, [], _∷_, _++_}
-use lib.Dec.{eqb}
 use lib.ListN.{length, take, drop}
-use Rattle.theory.specs.Sums.{sumBy, Every}
+use Rattle.theory.specs.Sums.{Every}
 use Rattle.theory.specs.Focal.{Focal, weights, total}
 use Rattle.theory.specs.Structure.{Tree, trees}
-use Rattle.theory.specs.Choices.{choices, outcomes, belief, plausibility, Spans}
+use Rattle.theory.specs.Choices.{choices, outcomes, belief, plausibility, weightAt, Spans}
 use Rattle.theory.specs.Lists.{InOrder, driveList}
 use Rattle.theory.specs.Evaluation.{pairCount, completed, refused}
 use Rattle.theory.specs.Bounds.{Bounds}
 use Rattle.theory.specs.Limits.{mostTotal, mostComponents}
 use Rattle.numbers.specs.Numbers.{Bytes}
-use Rattle.lists.specs.Records.{records}
+use Rattle.records.specs.Records.{records}
 use Rattle.sheet.specs.declared.Plan.{Plan}
 use Rattle.sheet.specs.Tests.{Test}
 use Rattle.sheet.specs.Plan.{cleanedPlan}
@@ -34,10 +33,6 @@ Unbroken t = t .broken ≡ false
 pub data First : List Test → ℕ → Type 0 where
   here : {t : Test} {ts : List Test} {k : ℕ} → t .broken ≡ true → t .number ≡ k → First (t ∷ ts) k
   later : {t : Test} {ts : List Test} {k : ℕ} → Unbroken t → First ts k → First (t ∷ ts) k
-
--- the weight that a list has at an interval
-abbrev pub weightAt : ℕ → ℕ → List Focal → ℕ
-weightAt low high = sumBy (λ f. cond (eqb low (f .low) && eqb high (f .high)) (f .weight) 0)
 
 -- No rule is broken: none of 1 to 12 by the tests, and the plan runs past every join without 13 or 14.
 pub record Passed (s : List ℕ) (allowance room : ℕ) : Type 0 where

@@ -80,7 +80,7 @@ pub fn bounds(sheet: &[u8], demand: u32, allowance: u32, store: &mut [u8]) -> An
         return refuse(r.number);
     }
     let n = r.intervals;
-    let s = lists::shares_at(store, n, demand as u64);
+    let s = records::shares_at(store, n, demand as u64);
     let u = total_of(p);
     Answer {
         number: 0,
