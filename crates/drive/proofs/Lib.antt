@@ -1,1 +1,2 @@
-pub mod Ways
+-- What is proved of the call for C hosts.
+pub mod Call

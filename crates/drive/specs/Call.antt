@@ -1,13 +1,17 @@
--- "pass only numbers and byte slices": the call for C hosts. Assumes nothing.
-use Prim.Native.Nat.{ℕ}
+-- "pass only numbers and byte slices": the call for C hosts, with a list buffer and an answer buffer. Assumes nothing.
+use Prim.Native.Nat.{ℕ, _^_, _≤_, _<_}
+use mathlib.Core.Path.{_≡_}
 use mathlib.Core.Bool.{cond}
 use mathlib.Core.List.{List, _++_}
 use lib.Dec.{ltb}
 use lib.ListN.{length, drop}
-use Rattle.numbers.specs.Numbers.{bigEndian}
+use Rattle.theory.specs.Sums.{Every}
+use Rattle.numbers.specs.Numbers.{bigEndian, numberAt}
+use Rattle.sheet.specs.Reading.{sheetTests}
 use Rattle.evaluate.specs.declared.Answer.{Answer}
 use Rattle.evaluate.specs.Answer.{answer}
 use Rattle.evaluate.specs.Store.{storeAfter}
+use Rattle.evaluate.specs.Demands.{Unbroken, First}
 
 -- the bytes that an answer takes
 abbrev pub answerBytes : ℕ
@@ -18,22 +22,55 @@ unfoldable pub encodeAnswer : Answer → List ℕ
 encodeAnswer a =
     bigEndian 8 (a .total) ++ (bigEndian 8 (a .belief) ++ (bigEndian 8 (a .plausibility) ++ (bigEndian 8 (a .pairs) ++ bigEndian 8 (a .intervals))))
 
--- The list buffer that counts: none where the answer buffer is too short, so that the number is 12 unless one of 1 to 11 applies.
+-- The bytes of the list buffer that count: none where the answer buffer is too short, so that the number is 12 unless one of 1 to 11 applies.
 abbrev pub room : List ℕ → List ℕ → ℕ
-room list reply = cond (ltb (length reply) answerBytes) 0 (length list)
+room list buffer = cond (ltb (length buffer) answerBytes) 0 (length list)
 
 abbrev pub called : List ℕ → ℕ → ℕ → List ℕ → List ℕ → Answer
-called sheet demand allowance list reply = answer sheet demand allowance (room list reply)
+called sheet demand allowance list buffer = answer sheet demand allowance (room list buffer)
 
 -- the number returned
 unfoldable pub numberReturned : List ℕ → ℕ → ℕ → List ℕ → List ℕ → ℕ
-numberReturned sheet demand allowance list reply = (called sheet demand allowance list reply) .number
+numberReturned sheet demand allowance list buffer = (called sheet demand allowance list buffer) .number
 
 -- the list buffer afterwards: unchanged where the answer buffer is too short
 unfoldable pub listAfter : List ℕ → ℕ → List ℕ → List ℕ → List ℕ
-listAfter sheet allowance list reply = cond (ltb (length reply) answerBytes) list (storeAfter sheet allowance list)
+listAfter sheet allowance list buffer = cond (ltb (length buffer) answerBytes) list (storeAfter sheet allowance list)
 
 -- the answer buffer afterwards: unchanged where it is too short; else the answer at its front, and the bytes behind untouched
-unfoldable pub replyAfter : List ℕ → ℕ → ℕ → List ℕ → List ℕ → List ℕ
-replyAfter sheet demand allowance list reply =
-    cond (ltb (length reply) answerBytes) reply (encodeAnswer (called sheet demand allowance list reply) ++ drop answerBytes reply)
+unfoldable pub answerAfter : List ℕ → ℕ → ℕ → List ℕ → List ℕ → List ℕ
+answerAfter sheet demand allowance list buffer =
+    cond (ltb (length buffer) answerBytes) buffer (encodeAnswer (called sheet demand allowance list buffer) ++ drop answerBytes buffer)
+
+-- What that comes to, for every sheet, demand, allowance, list buffer and answer buffer.
+module _ (sheet : List ℕ) (demand allowance : ℕ) (list buffer : List ℕ) where
+  abbrev pub number : ℕ
+  number = numberReturned sheet demand allowance list buffer
+
+  abbrev pub written : List ℕ
+  written = answerAfter sheet demand allowance list buffer
+
+  abbrev pub answered : Answer
+  answered = answer sheet demand allowance (length list)
+
+  -- "If that has fewer than 40 bytes, it and the list buffer stay unchanged and the number is 12, unless one of 1 to 11 applies."
+  pub record TooShort : Type 0 where
+    pub answer-unchanged : written ≡ buffer
+    pub list-unchanged : listAfter sheet allowance list buffer ≡ list
+    pub twelve : Every Unbroken (sheetTests sheet) → number ≡ 12
+    pub one-to-eleven : (k : ℕ) → First (sheetTests sheet) k → number ≡ k
+
+  -- Otherwise the number and the list are the call's, and its five other answers are read back from the answer buffer.
+  pub record Written : Type 0 where
+    pub number-is : number ≡ answered .number
+    pub list-is : listAfter sheet allowance list buffer ≡ storeAfter sheet allowance list
+    pub total-read : numberAt written 0 8 ≡ answered .total
+    pub belief-read : numberAt written 8 8 ≡ answered .belief
+    pub plausibility-read : numberAt written 16 8 ≡ answered .plausibility
+    pub pairs-read : numberAt written 24 8 ≡ answered .pairs
+    pub intervals-read : numberAt written 32 8 ≡ answered .intervals
+    pub later-kept : drop answerBytes written ≡ drop answerBytes buffer
+
+  pub record Call : Type 0 where
+    pub too-short : length buffer < answerBytes → TooShort
+    pub long-enough : answerBytes ≤ length buffer → allowance < 2 ^ 32 → Written

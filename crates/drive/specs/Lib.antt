@@ -1,2 +1,2 @@
--- What C hosts link: the number it returns, and each buffer afterwards.
+-- What C hosts link: the number that it returns, and each buffer afterwards.
 pub mod Call

@@ -3,22 +3,22 @@ ghost use mathlib.Core.Path.{_≡_};
 ghost use mathlib.Core.List.{_++_};
 ghost use Prim.Native.Nat.{_≤_};
 ghost use lib.ListN.{length, drop};
-ghost use Rattle.drive.specs.Call.{answerBytes, encodeAnswer, numberReturned, listAfter, replyAfter};
+ghost use Rattle.drive.specs.Call.{answerBytes, encodeAnswer, numberReturned, listAfter, answerAfter};
 use evaluate::Answer;
 
 // The bytes that an answer takes.
 const ANSWER: usize = 40;
 
 // Writes an answer at the front of a buffer that holds it.
-fn put_answer(a: Answer, reply: &mut [u8])
-    requires { ⌜ answerBytes ≤ length (now reply) ⌝ }
-    ensures { λ _. ⌜ now (reply .exit) ≡ encodeAnswer a ++ drop answerBytes (now (reply .entry)) ⌝ }
+fn put_answer(a: Answer, buffer: &mut [u8])
+    requires { ⌜ answerBytes ≤ length (now buffer) ⌝ }
+    ensures { λ _. ⌜ now (buffer .exit) ≡ encodeAnswer a ++ drop answerBytes (now (buffer .entry)) ⌝ }
 {
-    numbers::write_number(reply, 0, 8, a.total);
-    numbers::write_number(reply, 8, 8, a.belief);
-    numbers::write_number(reply, 16, 8, a.plausibility);
-    numbers::write_number(reply, 24, 8, a.pairs);
-    numbers::write_number(reply, 32, 8, a.intervals);
+    numbers::write_number(buffer, 0, 8, a.total);
+    numbers::write_number(buffer, 8, 8, a.belief);
+    numbers::write_number(buffer, 16, 8, a.plausibility);
+    numbers::write_number(buffer, 24, 8, a.pairs);
+    numbers::write_number(buffer, 32, 8, a.intervals);
 }
 
 // Returns the number. The answer goes to the front of `answer`, the drive's list to the front of `list`; the header host/drive.h is the
@@ -33,7 +33,7 @@ pub extern "C" fn drive_bounds(
 ) -> u32
     ensures { λ r. ⌜ r ≡ numberReturned (now (sheet .entry)) demand allowance (now (list .entry)) (now (answer .entry)) ⌝ }
     ensures { λ _. ⌜ now (list .exit) ≡ listAfter (now (sheet .entry)) allowance (now (list .entry)) (now (answer .entry)) ⌝ }
-    ensures { λ _. ⌜ now (answer .exit) ≡ replyAfter (now (sheet .entry)) demand allowance (now (list .entry)) (now (answer .entry)) ⌝ }
+    ensures { λ _. ⌜ now (answer .exit) ≡ answerAfter (now (sheet .entry)) demand allowance (now (list .entry)) (now (answer .entry)) ⌝ }
 {
     if answer.len() < ANSWER {
         let a = evaluate::bounds(sheet, demand, allowance, &mut list[0..0]);

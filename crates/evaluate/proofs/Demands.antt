@@ -1,10 +1,13 @@
 -- The three demands hold: the statements of specs/Demands.antt. Assumes nothing.
-use Prim.Native.Nat.{ℕ, zero, suc, _≤_, _<_}
+use Prim.Native.Nat.{ℕ, zero, suc, _^_, _≤_, _<_}
 use mathlib.Core.Path.{_≡_, refl, sym, ap, subst, _∙_}
 use mathlib.Core.Logic.{_⊎_, inl, inr}
-use mathlib.Core.List.{List}
+use mathlib.Core.Bool.{Bool, true, false, cond}
+use mathlib.Core.List.{List, []}
 use native.Mathlib.Nat.{le-trans, pow-le-pow-right}
+use native.Mathlib.Decide.{ℕ-discrete}
 use native.Mathlib.Omega.{arith}
+use lib.Dec.{leb}
 use lib.ListN.{length}
 use borrow.Author.Tests.{ne-eqb}
 use Rattle.theory.specs.declared.Entry.{Entry}
@@ -12,11 +15,15 @@ use Rattle.theory.specs.declared.Component.{Component}
 use Rattle.theory.specs.Structure.{Tree}
 use Rattle.theory.specs.Evaluation.{Evaluation, completed, refused}
 use Rattle.theory.specs.Limits.{mostTotal, mostComponents}
-use Rattle.theory.specs.Focal.{Focal, total}
+use Rattle.theory.specs.Sums.{Every}
+use Rattle.theory.specs.Focal.{Focal, weights, total, Positive}
+use Rattle.theory.specs.Choices.{weightWhere}
 use Rattle.theory.specs.Bounds.{Bounds}
 use Rattle.theory.proofs.Every.{every-map}
+use Rattle.theory.proofs.Sums.{sum-le}
+use Rattle.theory.proofs.Steps.{positive-outcomesOf}
 use Rattle.theory.proofs.Method.{Leaves}
-use Rattle.theory.proofs.Collect.{order-collect, weightAt-collect, belief-collect, plausibility-collect}
+use Rattle.theory.proofs.Collect.{order-collect, positive-collect, weightAt-collect, belief-collect, plausibility-collect}
 use Rattle.theory.proofs.Totals.{weights-driveList, total-le}
 use Rattle.theory.proofs.Range.{spans-choices}
 use Rattle.theory.proofs.Bounds.{bounds}
@@ -34,7 +41,7 @@ use Rattle.evaluate.specs.Answer.{planOf, components, structure, callTes
 use Rattle.evaluate.specs.Store.{storeBy}
 use Rattle.evaluate.specs.Demands.{Passed, Broken, by-test, by-join, answerAt, answered, after, all, list, Demand-1, Writer, Demand-2, RoundTrips, Demand-3}
 use Rattle.evaluate.proofs.Numbers.{first-is, is-first, plan-accepted, plan-refused, tests-kept, Ended, tested, stopped, passed, ended, answered-by, stored-by}
-use Rattle.evaluate.proofs.Finish.{leaves-by, drive-fits, early, late, above, plan-keeps}
+use Rattle.evaluate.proofs.Finish.{Within, completes, within, leaves-by, drive-fits, early, late, above, plan-keeps}
 
 -- what a call ends in, and what its number says
 module _ (s : List ℕ) (demand allowance room : ℕ) where
@@ -161,7 +168,11 @@ module _ (s : List ℕ) (demand allowance : ℕ) (store : List ℕ) (e : (answer
         tree = leaves .tree;
         built = leaves .built;
         pairs-are = ap (λ (x : Answer). x .pairs) a ∙ leaves .counted;
+        pairs-most = allowed (rw (P .runs) at (within (components s) allowance (structure s) [] 0 (omega arith))) (ap (λ (x : Answer). x .pairs) a);
       }
+    where
+      allowed : {stack : List Tree} {pairs n : ℕ} → Within allowance (completed stack pairs) → n ≡ pairs → n ≤ allowance
+      allowed (completes h) q = omega arith
 
   pub demand-3 : Demand-3 s demand allowance store
   demand-3 =
@@ -169,3 +180,44 @@ module _ (s : List ℕ) (demand allowance : ℕ) (store : List ℕ) (e : (answer
       (λ d. sym (ap (λ (x : Answer). x .belief) (answer-is d)))
       (λ d. sym (ap (λ (x : Answer). x .plausibility) (answer-is d)))
       (bounds (structure s) (keeps .inRange))
+
+-- ---- the numbers of an answer fit 64 bits
+
+pub record Fits64 (a : Answer) : Type 0 where
+  pub total : a .total < 2 ^ 64
+  pub belief : a .belief < 2 ^ 64
+  pub plausibility : a .plausibility < 2 ^ 64
+  pub pairs : a .pairs < 2 ^ 64
+  pub intervals : a .intervals < 2 ^ 64
+
+where-le : (test : ℕ → ℕ → Bool) (l : List Focal) → weightWhere test l ≤ weights l
+where-le test = sum-le (λ f. go (test (f .low) (f .high)) (f .weight))
+  where
+    go : (b : Bool) (w : ℕ) → cond b w 0 ≤ w
+    go true w = omega arith
+    go false w = omega arith
+
+length-le : {l : List Focal} → Every Positive l → length l ≤ weights l
+length-le Every.none = omega arith
+length-le (Every.more p r) = omega (arith, length-le r)
+
+module _ (s : List ℕ) (demand allowance : ℕ) (store : List ℕ) (h : allowance < 2 ^ 64) where
+  pub answer-fits : Fits64 (answered s demand allowance store)
+  answer-fits = elim (ℕ-discrete ((answered s demand allowance store) .number) 0) [
+    | yes e ↦
+        let D = demand-2 s demand allowance store e in
+        let l = list s demand allowance store in
+        let t : weights l ≤ 1000000000000000000 = omega (arith, D .list-weights, D .total-most) in
+        let L = leaves s demand allowance store e in
+        let p : length l ≤ weights l = length-le (rw (L .list) at (positive-collect (positive-outcomesOf (keeps s demand allowance store e .positive) (L .tree)))) in
+        record {
+          total = omega (arith, D .total-most);
+          belief = omega (arith, D .list-belief demand, where-le (λ low high. leb demand low) l);
+          plausibility = omega (arith, D .list-plausibility demand, where-le (λ low high. leb demand high) l);
+          pairs = omega (arith, D .pairs-most);
+          intervals = omega (arith, D .list-length);
+        }
+    | no n ↦
+        rw (demand-1 s demand allowance store .zeros ((answered s demand allowance store) .number) (omega arith) refl)
+        (record { total = omega arith; belief = omega arith; plausibility = omega arith; pairs = omega arith; intervals = omega arith })
+  ]

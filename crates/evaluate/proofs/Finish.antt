@@ -1,22 +1,23 @@
 -- From the run of a plan to the answer of a call: the list that the run leaves is the drive's, and is read back from the store. Assumes nothing.
 use Prim.Native.Nat.{ℕ, zero, suc, _+_, _*_, _^_, _≤_, _<_}
 use mathlib.Core.Path.{_≡_, refl, sym, ap, _∙_}
-use mathlib.Core.Bool.{cond, _||_}
+use mathlib.Core.Bool.{Bool, true, false, cond, _||_}
 use mathlib.Core.Logic.{_⊎_, inl, inr}
 use mathlib.Core.List.{List, [], _∷_, _++_, map}
 use native.Mathlib.Omega.{arith}
 use lib.Dec.{ltb, eqb}
 use lib.ListN.{length, length-append}
-use borrow.Author.Tests.{ne-eqb}
+use borrow.Author.Tests.{ne-eqb, ltb-false}
 use Rattle.theory.specs.Sums.{Every}
 use Rattle.theory.specs.Focal.{Focal, weights, total}
 use Rattle.theory.specs.declared.Component.{Component}
 use Rattle.theory.specs.declared.Entry.{Entry}
-use Rattle.theory.specs.Structure.{NamedOnce, Tree}
+use Rattle.theory.specs.declared.Entry.the-variants.{Component as component, Join as join}
+use Rattle.theory.specs.Structure.{NamedOnce, Tree, leaf, node}
 use Rattle.theory.specs.Choices.{outcomes, belief, plausibility}
 use Rattle.theory.specs.Lists.{driveList, listOf}
-use Rattle.theory.specs.Evaluation.{Evaluation, completed, refused, evaluate}
-use Rattle.theory.specs.Limits.{recordBytes}
+use Rattle.theory.specs.Evaluation.{Evaluation, completed, refused, refuseIf, walk, evaluate}
+use Rattle.theory.specs.Limits.{mostIntervals, recordBytes}
 use Rattle.theory.proofs.Every.{every-map}
 use Rattle.theory.proofs.Collect.{belief-collect, plausibility-collect}
 use Rattle.theory.proofs.Method.{image, evaluate-lists, evaluate-refused, Leaves, method}
@@ -38,6 +39,27 @@ use Rattle.run.proofs.Stacked.{fits-record}
 use Rattle.evaluate.specs.Answer.{planOf, components, structure, callTests, evaluated, ending, refusal, answer}
 use Rattle.evaluate.specs.Store.{storeAfter}
 use Rattle.evaluate.proofs.Numbers.{tests-most, tests-say, answered-by, stored-by}
+
+-- ---- a completed evaluation has formed no more pairs than the allowance
+
+pub data Within (allowance : ℕ) : Evaluation Tree → Type 0 where
+  refuses : {k : ℕ} → Within allowance (refused k)
+  completes : {stack : List Tree} {pairs : ℕ} → pairs ≤ allowance → Within allowance (completed stack pairs)
+
+module _ (cs : List Component) (allowance : ℕ) where
+  pub within : (es : List Entry) (stack : List Tree) (n : ℕ) → n ≤ allowance → Within allowance (walk allowance (listOf cs) leaf node es stack n)
+  within [] stack n h = completes h
+  within (component i ∷ es) stack n h = within es (leaf i ∷ stack) n h
+  within (join op ∷ es) [] n h = within es [] n h
+  within (join op ∷ es) (y ∷ []) n h = within es (y ∷ []) n h
+  within (join op ∷ es) (y ∷ x ∷ stack) n h =
+      let m : ℕ = n + length (listOf cs x) * length (listOf cs y) in
+      go (ltb allowance m) (ltb mostIntervals (length (listOf cs (node op x y)))) (λ e. within es (node op x y ∷ stack) m (ltb-false allowance m e))
+    where
+      go : (a b : Bool) {v : Evaluation Tree} → (a ≡ false → Within allowance v) → Within allowance (refuseIf a 13 (refuseIf b 14 v))
+      go true b r = refuses
+      go false true r = refuses
+      go false false r = r refl
 
 -- ---- a plan that keeps the rules
 

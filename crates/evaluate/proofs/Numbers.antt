@@ -40,6 +40,19 @@ is-first (t ∷ ts) k h e = go (t .broken) refl e (is-first ts k h)
     go true q e rest = here q (rw q at e)
     go false q e rest = later q (rest (rw q at e))
 
+-- in a longer list
+pub first-in-front : {ts : List Test} {k : ℕ} → First ts k → (us : List Test) → First (ts ++ us) k
+first-in-front (here q e) us = here q e
+first-in-front (later q r) us = later q (first-in-front r us)
+
+pub first-behind : {ts us : List Test} {k : ℕ} → Every Unbroken ts → First us k → First (ts ++ us) k
+first-behind Every.none f = f
+first-behind (Every.more q r) f = later q (first-behind r f)
+
+at-least : {ts : List Test} {k : ℕ} → Every (λ t. 1 ≤ t .number) ts → First ts k → 0 < k
+at-least (Every.more p r) (here q e) = omega arith
+at-least (Every.more p r) (later q f) = at-least r f
+
 at-most : (n : ℕ) {ts : List Test} → Every (λ t. t .number ≤ n) ts → firstBroken ts ≤ n
 at-most n Every.none = omega arith
 at-most n (Every.more {x = t} {xs = ts} p r) = go (t .broken) refl (at-most n r)
@@ -55,6 +68,9 @@ module _ (n : ℕ) (ts : List Test) (e : some (λ t. outside 1 n (t .number)) ts
 
   pub no-number : firstBroken ts ≡ 0 → Every Unbroken ts
   no-number = all-kept ts (every-map (λ t h. h .0) numbers)
+
+  pub least-number : {k : ℕ} → First ts k → 0 < k
+  least-number = at-least (every-map (λ t h. h .0) numbers)
 
   pub most-number : firstBroken ts ≤ n
   most-number = at-most n (every-map (λ t h. h .1) numbers)

@@ -103,6 +103,7 @@ module _ (s : List ℕ) (demand allowance : ℕ) (store : List ℕ) where
     pub tree : Tree
     pub built : trees (structure s) ≡ tree ∷ []
     pub pairs-are : answered .pairs ≡ pairCount (components s) tree
+    pub pairs-most : answered .pairs ≤ allowance
 
   -- Demand 3, for an accepted call: belief and plausibility, as functions of the demand, over the total answered.
   abbrev pub Demand-3 : Type 0

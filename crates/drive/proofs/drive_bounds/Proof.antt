@@ -6,7 +6,7 @@ use native.Mathlib.Omega.{arith}
 use lib.ListN.{length, drop}
 use Rattle.evaluate.specs.declared.Answer.{Answer}
 use Rattle.drive.specs.Call.{answerBytes, encodeAnswer}
-use Rattle.drive.proofs.Ways.{too-short, long-enough}
+use Rattle.drive.proofs.Call.{too-short, long-enough}
 use borrow.Author.Needs.{needs}
 use Rattle.drive.proofs.drive_bounds.Statement.{statement}
 use Rattle.drive.proofs.drive_bounds.Tie as tie
@@ -14,24 +14,6 @@ use Rattle.drive.proofs.drive_bounds.Tie as tie
 nothing : (l : List ℕ) → length l ≡ 0 → l ≡ []
 nothing [] e = refl
 nothing (x ∷ l) e = absurd (omega arith)
-
-sub-bounds : tie.Need-sub-bounds
-sub-bounds c = search needs
-
-part-bounds-start : tie.Need-part-bounds-start
-part-bounds-start c = search needs
-
-part-bounds-end : tie.Need-part-bounds-end
-part-bounds-end c = search needs
-
-bounds-requires : tie.Need-bounds-requires
-bounds-requires c κs = search needs
-
-cast-result : tie.Need-cast-result
-cast-result c = search needs
-
-same-length : tie.Need-same-length
-same-length c = search needs
 
 returns : tie.Need-returns
 returns c =
@@ -41,21 +23,6 @@ returns c =
       ap (λ (a : Answer). a .number) (b .bounds .ensures .0) ∙ sym (way .0),
       (ap (λ (l : List ℕ). l ++ s .args .list .now) (nothing (b .bounds .last .1 .1 .1 .0) (b .bounds .kept .1 .1 .1 .0)) ∙ sym (way .1), sym (way .2)),
     )
-
-bounds-requires-2 : tie.Need-bounds-requires-2
-bounds-requires-2 c κs = search needs
-
-put-answer-requires : tie.Need-put-answer-requires
-put-answer-requires c κs = search needs
-
-cast-result-2 : tie.Need-cast-result-2
-cast-result-2 c = search needs
-
-same-length-2 : tie.Need-same-length-2
-same-length-2 c = search needs
-
-same-length-3 : tie.Need-same-length-3
-same-length-3 c = search needs
 
 returns-2 : tie.Need-returns-2
 returns-2 c =
@@ -73,17 +40,5 @@ returns-2 c =
 pub drive-bounds-spec : {M : Type 1} → statement M
 drive-bounds-spec =
     tie.close
-    (tie.spec
-    sub-bounds
-    part-bounds-start
-    part-bounds-end
-    bounds-requires
-    cast-result
-    same-length
-    returns
-    bounds-requires-2
-    put-answer-requires
-    cast-result-2
-    same-length-2
-    same-length-3
-    returns-2)
+    (tie.spec (λ c. search needs) (λ c. search needs) (λ c. search needs) (λ c κs. search needs) (λ c. search needs) (λ c. search needs) returns
+    (λ c κs. search needs) (λ c κs. search needs) (λ c. search needs) (λ c. search needs) (λ c. search needs) returns-2)

@@ -7,13 +7,10 @@ use lib.ListN.{length, take, drop, length-append}
 use lib.Seq.{take-at, drop-append-add, drop-drop}
 use Rattle.numbers.specs.Numbers.{bigEndian}
 use Rattle.drive.specs.Call.{encodeAnswer}
+use Rattle.drive.proofs.Call.{eight-bytes}
 use borrow.Author.Needs.{needs}
 use Rattle.drive.proofs.put_answer.Statement.{statement}
 use Rattle.drive.proofs.put_answer.Tie as tie
-
-eight-bytes : (v : ℕ) → length (bigEndian 8 v) ≡ 8
-unfolding bigEndian
-eight-bytes v = refl
 
 -- one number more behind xs, which take the first k bytes
 behind : (s₀ s e xs : List ℕ) (k v : ℕ) → length xs ≡ k → s ≡ xs ++ drop k s₀ → e ≡ take k s ++ (bigEndian 8 v ++ drop (k + 8) s)
@@ -29,24 +26,6 @@ behind s₀ s e xs k v l p q =
 grouped : (a b c d e f : List ℕ) → ((((a ++ b) ++ c) ++ d) ++ e) ++ f ≡ (a ++ (b ++ (c ++ (d ++ e)))) ++ f
 grouped a b c d e f = simp append-assoc
 
-write-number-requires : tie.Need-write-number-requires
-write-number-requires c κs = search needs
-
-write-number-requires-2 : tie.Need-write-number-requires-2
-write-number-requires-2 c κs = search needs
-
-write-number-requires-3 : tie.Need-write-number-requires-3
-write-number-requires-3 c κs = search needs
-
-write-number-requires-4 : tie.Need-write-number-requires-4
-write-number-requires-4 c κs = search needs
-
-write-number-requires-5 : tie.Need-write-number-requires-5
-write-number-requires-5 c κs = search needs
-
-same-length : tie.Need-same-length
-same-length c = search needs
-
 returns : tie.Need-returns
 unfolding encodeAnswer
 returns c =
@@ -57,7 +36,7 @@ returns c =
     let w1 = w2 .before .before .before .before in
     let s = w1 .before .before .before in
     let a = s .args .a in
-    let s₀ = s .args .reply .now in
+    let s₀ = s .args .buffer .now in
     let b1 = bigEndian 8 (a .total) in
     let b2 = b1 ++ bigEndian 8 (a .belief) in
     let b3 = b2 ++ bigEndian 8 (a .plausibility) in
@@ -72,11 +51,5 @@ returns c =
 pub put-answer-spec : {M : Type 1} → statement M
 put-answer-spec =
     tie.close
-    (tie.spec
-    write-number-requires
-    write-number-requires-2
-    write-number-requires-3
-    write-number-requires-4
-    write-number-requires-5
-    same-length
-    returns)
+    (tie.spec (λ c κs. search needs) (λ c κs. search needs) (λ c κs. search needs) (λ c κs. search needs) (λ c κs. search needs)
+    (λ c. search needs) returns)

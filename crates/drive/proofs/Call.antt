@@ -1,0 +1,92 @@
+-- The call for C hosts, by whether the answer buffer is too short: the statement of specs/Call.antt. Assumes nothing.
+use Prim.Native.Nat.{ℕ, _+_, _^_, _≤_, _<_}
+use mathlib.Core.Path.{_≡_, refl, sym, ap, _∙_}
+use mathlib.Core.Bool.{Bool, true, false, cond}
+use mathlib.Core.List.{List, [], _++_, append-assoc}
+use native.Mathlib.Omega.{arith}
+use lib.Dec.{ltb}
+use lib.ListN.{length, take, drop, length-append}
+use lib.Seq.{take-at, drop-at, drop-append-add}
+use borrow.Author.Tests.{lt-ltb, le-ltb}
+use Rattle.numbers.specs.Numbers.{bigEndian, onto, numberAt}
+use Rattle.numbers.proofs.Numbers.{read-back}
+use Rattle.sheet.specs.Reading.{sheetTests}
+use Rattle.evaluate.specs.declared.Answer.{Answer}
+use Rattle.evaluate.specs.Answer.{callTests, answer}
+use Rattle.evaluate.specs.Store.{storeAfter}
+use Rattle.evaluate.specs.Demands.{here, by-test}
+use Rattle.evaluate.proofs.Numbers.{first-in-front, first-behind, least-number}
+use Rattle.evaluate.proofs.Demands.{demand-1, answer-fits}
+use Rattle.drive.specs.Call.{answerBytes, encodeAnswer, numberReturned, listAfter, answerAfter, Call}
+
+-- ---- the bytes of an answer
+
+pub eight-bytes : (v : ℕ) → length (bigEndian 8 v) ≡ 8
+unfolding bigEndian
+eight-bytes v = refl
+
+length-answer : (a : Answer) → length (encodeAnswer a) ≡ answerBytes
+unfolding encodeAnswer
+length-answer a = simp (length-append, eight-bytes)
+
+-- a number at the front, and what stands behind it
+read-front : (v : ℕ) (s : List ℕ) → v < 2 ^ 64 → numberAt (bigEndian 8 v ++ s) 0 8 ≡ v
+read-front v s h = ap (onto 0) (take-at (bigEndian 8 v) s 8 (eight-bytes v)) ∙ read-back 8 v h
+
+read-behind : (v : ℕ) (s : List ℕ) (k : ℕ) → numberAt (bigEndian 8 v ++ s) (8 + k) 8 ≡ numberAt s k 8
+read-behind v s k =
+    ap (λ (t : List ℕ). onto 0 (take 8 t)) (ap (λ n. drop (n + k) (bigEndian 8 v ++ s)) (sym (eight-bytes v)) ∙ drop-append-add (bigEndian 8 v) s k)
+
+-- ---- the two ways
+
+module _ (sheet : List ℕ) (demand allowance : ℕ) (list buffer : List ℕ) where
+  -- what the three definitions come to, by whether the answer buffer is too short
+  abbrev By : Bool → Type 0
+  By b =
+      (numberReturned sheet demand allowance list buffer ≡ (answer sheet demand allowance (cond b 0 (length list))) .number)
+      × (listAfter sheet allowance list buffer ≡ cond b list (storeAfter sheet allowance list))
+      × (answerAfter sheet demand allowance list buffer
+      ≡ cond b buffer (encodeAnswer (answer sheet demand allowance (cond b 0 (length list))) ++ drop answerBytes buffer))
+
+  by-length : By (ltb (length buffer) answerBytes)
+  unfolding numberReturned listAfter answerAfter
+  by-length = (refl, refl, refl)
+
+  pub too-short : length buffer < answerBytes → By true
+  too-short h = rw (lt-ltb (length buffer) answerBytes h) at by-length
+
+  pub long-enough : answerBytes ≤ length buffer → By false
+  long-enough h = rw (le-ltb (length buffer) answerBytes h) at by-length
+
+  pub call : Call sheet demand allowance list buffer
+  unfolding encodeAnswer
+  call = record {
+    too-short = λ h.
+        let way = too-short h in
+        let D = demand-1 sheet demand allowance [] in
+        record {
+          answer-unchanged = way .2;
+          list-unchanged = way .1;
+          twelve = λ u. way .0 ∙ D .refused-by 12 (omega arith) .1 (by-test (first-behind u (here refl refl)));
+          one-to-eleven = λ k f. way .0 ∙ D .refused-by k (least-number 11 (sheetTests sheet) refl f) .1 (by-test (first-in-front f _));
+        };
+    long-enough = λ h k.
+        let way = long-enough h in
+        let a : Answer = answer sheet demand allowance (length list) in
+        let fits = answer-fits sheet demand allowance list (omega arith) in
+        let b5 : List ℕ = bigEndian 8 (a .intervals) ++ drop answerBytes buffer in
+        let b4 : List ℕ = bigEndian 8 (a .pairs) ++ b5 in
+        let b3 : List ℕ = bigEndian 8 (a .plausibility) ++ b4 in
+        let b2 : List ℕ = bigEndian 8 (a .belief) ++ b3 in
+        let all : answerAfter sheet demand allowance list buffer ≡ bigEndian 8 (a .total) ++ b2 = way .2 ∙ simp append-assoc in
+        record {
+          number-is = way .0;
+          list-is = way .1;
+          total-read = rw all (read-front (a .total) b2 (fits .total));
+          belief-read = rw all (read-behind (a .total) b2 0 ∙ read-front (a .belief) b3 (fits .belief));
+          plausibility-read = rw all (read-behind (a .total) b2 8 ∙ (read-behind (a .belief) b3 0 ∙ read-front (a .plausibility) b4 (fits .plausibility)));
+          pairs-read = rw all (read-behind (a .total) b2 16 ∙ (read-behind (a .belief) b3 8 ∙ (read-behind (a .plausibility) b4 0 ∙ read-front (a .pairs) b5 (fits .pairs))));
+          intervals-read = rw all (read-behind (a .total) b2 24 ∙ (read-behind (a .belief) b3 16 ∙ (read-behind (a .plausibility) b4 8 ∙ (read-behind (a .pairs) b5 0 ∙ read-front (a .intervals) (drop answerBytes buffer) (fits .intervals)))));
+          later-kept = ap (drop answerBytes) (way .2) ∙ drop-at (encodeAnswer a) (drop answerBytes buffer) answerBytes (length-answer a);
+        };
+  }
