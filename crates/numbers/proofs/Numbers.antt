@@ -33,6 +33,11 @@ pub onto-next : (s : List ℕ) (acc k m : ℕ) → k < length s → onto acc (ta
 unfolding onto
 onto-next s acc k m h = ap (onto acc) (part-cons s k m h)
 
+pub onto-snoc : (acc : ℕ) (bs : List ℕ) (b : ℕ) → onto acc (bs ++ (b ∷ [])) ≡ onto acc bs * 256 + b
+unfolding onto
+onto-snoc acc [] b = refl
+onto-snoc acc (x ∷ xs) b = onto-snoc (acc * 256 + x) xs b
+
 pub bigEndian-next : (m v : ℕ) → bigEndian (m + 1) v ≡ (v / 256 ^ m) % 256 ∷ bigEndian m v
 unfolding bigEndian
 bigEndian-next m v = rw add-one
