@@ -1,5 +1,5 @@
 -- A block that is written is read back, and a block that is read is what its component's block is. Assumes nothing.
-use mathlib.Core.Path.{_≡_, refl, sym, ap, _∙_}
+use mathlib.Core.Path.{_≡_, refl, sym, ap}
 use mathlib.Core.Bool.{false}
 use mathlib.Core.List.{List}
 use Prim.Native.Nat.{ℕ, zero, suc, _+_, _*_, _^_, _≤_, _<_}
@@ -15,7 +15,7 @@ use Rattle.theory.specs.Limits.{mostHeld}
 use Rattle.theory.specs.Focal.{Focal, focalAt}
 use Rattle.theory.specs.declared.Component.{Component}
 use Rattle.block.specs.Block.{countBits, totalBits, speedBits, weightBits, intervalBits, placeOf, sizeOf, paddingOf, countIn, totalIn, intervalIn, cutShort, badZeroBits, componentOf, componentIn, intervalOf, intervalsOf, fieldsOf, cleaned}
-use Rattle.block.proofs.Laws.{Uncut, uncut, is-uncut, zero-bits, no-bad-bits, filled-ext, filled-used}
+use Rattle.block.proofs.Laws.{uncut, is-uncut, zero-bits, no-bad-bits, filled-ext, filled-used}
 
 pub width-intervals : (c : Component) (n : ℕ) → widthOf (intervalsOf c n) ≡ intervalBits * n
 unfolding intervalsOf widthOf

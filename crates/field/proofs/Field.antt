@@ -5,7 +5,7 @@ use Prim.Native.Nat.{ℕ, zero, suc, _+_, _-_, _*_, _/_, _%_, _^_, _≤_, _<_}
 use native.Mathlib.Nat.{add-zero, add-suc, mul-assoc, pow-suc, mod-lt, add-assoc, div-eq-of-lt, div-one}
 use native.Mathlib.Omega.{arith}
 use native.Mathlib.Numerals.{add-one}
-use lib.ListN.{length, take, drop, getD, length-drop}
+use lib.ListN.{length, drop, getD, length-drop}
 use lib.Seq.{take-suc, getD-drop}
 use lib.Dec.{lit<, lit≤}
 use lib.Pow.{high, low, shr-shr}

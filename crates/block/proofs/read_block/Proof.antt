@@ -11,7 +11,7 @@ use Rattle.field.specs.Bits.{fieldAt}
 use Rattle.reader.specs.Three.{threeAt}
 use Rattle.reader.specs.declared.Triple.{Triple}
 use Rattle.theory.specs.declared.Component.{Component}
-use Rattle.block.specs.Block.{countBits, zeroBits, totalBits, placeOf, sizeOf, countIn, cutShort, badZeroBits, componentOf, noBlock, blockIn}
+use Rattle.block.specs.Block.{countBits, zeroBits, totalBits, placeOf, sizeOf, countIn, badZeroBits, componentOf, noBlock, blockIn}
 use Rattle.block.specs.declared.Block.{Block}
 use Rattle.block.proofs.Laws.{Uncut, narrow, is-uncut, is-cut, block-uncut, block-cut}
 use Rattle.block.proofs.read_block.Statement.{statement}

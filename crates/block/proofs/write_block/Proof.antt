@@ -3,7 +3,6 @@ use mathlib.Core.Path.{_≡_}
 use mathlib.Core.List.{List, [], _∷_}
 use Prim.Native.Nat.{ℕ, _-_, _*_}
 use borrow.Author.Needs.{needs}
-use denote.Ref.{now}
 use Rattle.field.specs.Bits.{putAt}
 use Rattle.field.specs.Fields.{bits, putAll}
 use Rattle.field.proofs.Fields.{putAll-append}

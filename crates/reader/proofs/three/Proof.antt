@@ -15,23 +15,23 @@ use ghost.Atoms.{Atoms, sem}
 use contract.Monad.{Fun, fact}
 use contract.Running.{givenOf, tables, tablesOf}
 use types.Kit.{Given, ‵, raw, _⊛_, ⋆, some, later, _$_, _∵_, !, qed, by, move, drop, use1, use3, split, join, pick, fsplit, fjoin, suffices, frame, await, done}
-use types.Run.{look, init, stop, from, of-opd, and-then, no-more, assigns, land, returns, enter, alloc1, alloc0, params1, pass1, pass0, free0}
+use types.Run.{look, init, stop, from, and-then, land, returns, enter, alloc1, alloc0, params1, pass1, pass0, free0}
 use sound.WpLaws.{FmC, fmOf, WpFn-mono}
 use denote.RattleType.{owns}
 use denote.Laws.{Is, shows}
-use denote.Plain.{uint-makes, uint-vals, uint-tells}
+use denote.Plain.{uint-vals, uint-tells}
 use denote.Builtin.{u8, u32, usize}
 use denote.Ref.{RefT, now}
 use denote.Signature.{plain}
 use denote.Slice.{ShrSlice, slice-vals, shr-slice-tells, shr-slice-lawful}
-use denote.Steps.{owned, peeks, heard, nothing}
+use denote.Steps.{peeks, heard, nothing}
 use denote.Struct.Laws as LL
 use denote.Triple.Statement.{Contract, Triple as Known}
 use denote.Triple.Call.{calls-at}
 use denote.Triple.Entry.{Vals, onEntry}
 use denote.Triple.Spec.{Meets, tripleOf}
 use denote.Triple.Table.{entered, cited}
-use denote.Triple.Walked.{says, needs, Stays, stay-none, stay-none-slice, walkOf, goes-none, goes-none-slice, Walks, ends-at, walked, walk-meets}
+use denote.Triple.Walked.{says, needs, Stays, stay-none, stay-none-slice, walkOf, goes-none, goes-none-slice, ends-at, walked, walk-meets}
 use denote.Exit.{yes}
 use denote.Triple.Clauses.{ensured, lasts}
 use Rattle.field.specs.Bits.{fieldAt}
@@ -40,7 +40,7 @@ use Rattle.reader.specs.Three.{threeAt}
 use Rattle.reader.specs.declared.Triple.{Triple}
 use Rattle.reader.proofs.Triple as S
 use Rattle.reader.proofs.Triple.Laws as S′
-use Rattle.reader.proofs.Calls.{From, Take, Past, Token, OwnSlice, sliceOf, local, gone, doubled, starts, takes, passes}
+use Rattle.reader.proofs.Calls.{From, Take, Past, Token, OwnSlice, sliceOf, local, both, landed, assigned, gone, number, doubled, starts, takes, passes}
 use Rattle.reader.proofs.from_bit.Symbol as from-def
 use Rattle.reader.proofs.from_bit.Symbol.{name as #reader·from-bit}
 use Rattle.reader.proofs.from_bit.Met as from-thm
@@ -104,8 +104,8 @@ module _ {M : Type 1} (𝓤 : URA M) (H : Heap 𝓤) (A : Atoms 𝓤) (W : Given
       suffices ! _ (ends-at 𝓤 H A three.ended stayed (three.clauses 𝓤 H A mem run) W (((κ, tt), (q, tt), tt, args, vals), tt) u t
       (tt, (tt, (tt, (tt, (tt, tt))))) (tt, (tt, (tt, (tt, (tt, tt)))))) $ says ! e $
       move ! (1 ∷ []) $ frame ! $ nothing ! $
-      owned ! usize (Is usize) (uint-makes 𝓤 H A W w64) c _ (refl, c-fits) $ fjoin ! $ owned ! usize (Is usize) (uint-makes 𝓤 H A W w64) b _ (refl, b-fits) $ fjoin ! $
-      owned ! usize (Is usize) (uint-makes 𝓤 H A W w64) a _ (refl, a-fits) $ fjoin ! $ owned ! usize (Is usize) (uint-makes 𝓤 H A W w64) n _ (refl, n-fits) $ fjoin ! $
+      number ! c c-fits $ number ! b b-fits $
+      number ! a a-fits $ number ! n n-fits $
       move ! (2 ∷ 0 ∷ []) $ fjoin ! $ frame ! $ done !
 
   -- what is taken is what is asked
@@ -126,25 +126,25 @@ module _ {M : Type 1} (𝓤 : URA M) (H : Heap 𝓤) (A : Atoms 𝓤) (W : Given
         pass1 ! (init ! 24 refl (tt, record { fits = b-fits })) $ pass1 ! (init ! 22 refl (tt, record { fits = c-fits })) $ pass0 ! $
         -- [the token; what s owns; _16; …], of what the parameters own
         move ! (35 ∷ []) $ fsplit ! $ move ! (1 ∷ []) $ drop ! $ move ! (35 ∷ 0 ∷ []) $
-        starts 𝓤 H A W mem run κ q s ! fm known-from n n-fits (and-then ! (local ! 32 refl) (and-then ! (local ! 30 refl) (no-more !))) (λ u₀ is₀.
+        starts 𝓤 H A W mem run κ q s ! fm known-from n n-fits (both ! (local ! 32 refl) (local ! 30 refl)) (λ u₀ is₀.
         -- [the reader; the token; what s owns; _16; …]
-        land ! (from ! (stop !)) (init ! 23 refl is₀) $ assigns ! (of-opd ! (local ! 23 refl)) (from ! (stop !)) (init ! 11 refl is₀) $ doubled 𝓤 H A W mem run κ q s ! n u₀ $
-        takes 𝓤 H A W mem run κ q s ! fm known-take n u₀ a a-fits (ok .0) (and-then ! (local ! 11 refl) (and-then ! (local ! 29 refl) (no-more !))) (λ x₁ y₁ e₁ is₁.
+        landed ! 23 refl is₀ $ assigned ! (local ! 23 refl) 11 refl is₀ $ doubled 𝓤 H A W mem run κ q s ! n u₀ $
+        takes 𝓤 H A W mem run κ q s ! fm known-take n u₀ a a-fits (ok .0) (both ! (local ! 11 refl) (local ! 29 refl)) (λ x₁ y₁ e₁ is₁.
         -- [the first; the token; the reader; what s owns; _16; …]
-        land ! (from ! (stop !)) (init ! 22 refl is₁) $ assigns ! (of-opd ! (local ! 24 refl)) (from ! (stop !)) (init ! 10 refl is₀) $ move ! (1 ∷ 2 ∷ []) $
-        passes 𝓤 H A W mem run κ q s ! fm known-past n u₀ a a-fits (omega arith) (and-then ! (local ! 9 refl) (and-then ! (local ! 29 refl) (no-more !))) (λ u₁ js₁.
+        landed ! 22 refl is₁ $ assigned ! (local ! 24 refl) 10 refl is₀ $ move ! (1 ∷ 2 ∷ []) $
+        passes 𝓤 H A W mem run κ q s ! fm known-past n u₀ a a-fits (omega arith) (both ! (local ! 9 refl) (local ! 29 refl)) (λ u₁ js₁.
         -- [the reader; the token; the first; what s owns; _16; …]
-        land ! (from ! (stop !)) (init ! 20 refl js₁) $ assigns ! (of-opd ! (local ! 20 refl)) (from ! (stop !)) (init ! 8 refl js₁) $ doubled 𝓤 H A W mem run κ q s ! (n + a) u₁ $
-        takes 𝓤 H A W mem run κ q s ! fm known-take (n + a) u₁ b b-fits (ok .1) (and-then ! (local ! 8 refl) (and-then ! (local ! 28 refl) (no-more !))) (λ x₂ y₂ e₂ is₂.
+        landed ! 20 refl js₁ $ assigned ! (local ! 20 refl) 8 refl js₁ $ doubled 𝓤 H A W mem run κ q s ! (n + a) u₁ $
+        takes 𝓤 H A W mem run κ q s ! fm known-take (n + a) u₁ b b-fits (ok .1) (both ! (local ! 8 refl) (local ! 28 refl)) (λ x₂ y₂ e₂ is₂.
         -- [the second; the token; the reader; the first; what s owns; _16; …]
-        land ! (from ! (stop !)) (init ! 19 refl is₂) $ assigns ! (of-opd ! (local ! 21 refl)) (from ! (stop !)) (init ! 7 refl js₁) $ move ! (1 ∷ 2 ∷ []) $
-        passes 𝓤 H A W mem run κ q s ! fm known-past (n + a) u₁ b b-fits (omega arith) (and-then ! (local ! 6 refl) (and-then ! (local ! 28 refl) (no-more !))) (λ u₂ js₂.
+        landed ! 19 refl is₂ $ assigned ! (local ! 21 refl) 7 refl js₁ $ move ! (1 ∷ 2 ∷ []) $
+        passes 𝓤 H A W mem run κ q s ! fm known-past (n + a) u₁ b b-fits (omega arith) (both ! (local ! 6 refl) (local ! 28 refl)) (λ u₂ js₂.
         -- [the reader; the token; the second; the first; what s owns; _16; …]
-        land ! (from ! (stop !)) (init ! 17 refl js₂) $ assigns ! (of-opd ! (local ! 17 refl)) (from ! (stop !)) (init ! 5 refl js₂) $ move ! (1 ∷ 0 ∷ []) $
-        takes 𝓤 H A W mem run κ q s ! fm known-take (n + a + b) u₂ c c-fits (ok .2) (and-then ! (local ! 4 refl) (and-then ! (local ! 26 refl) (no-more !))) (λ x₃ y₃ e₃ is₃.
+        landed ! 17 refl js₂ $ assigned ! (local ! 17 refl) 5 refl js₂ $ move ! (1 ∷ 0 ∷ []) $
+        takes 𝓤 H A W mem run κ q s ! fm known-take (n + a + b) u₂ c c-fits (ok .2) (both ! (local ! 4 refl) (local ! 26 refl)) (λ x₃ y₃ e₃ is₃.
         -- [the third; the token; the second; the first; what s owns; _16; …]
-        land ! (from ! (stop !)) (init ! 15 refl is₃) $ move ! (0 ∷ 2 ∷ 3 ∷ []) $ use3 W (raw (Of 𝓤 H A mem run .pre (to-of y₁ y₂ y₃ x₁ x₂ x₃))) (ask-of y₁ y₂ y₃ x₁ x₂ x₃) $
-        calls-at ! fm (Of 𝓤 H A mem run) known-of (to-of y₁ y₂ y₃ x₁ x₂ x₃) (and-then ! (local ! 21 refl) (and-then ! (local ! 17 refl) (and-then ! (local ! 13 refl) (no-more !)))) (λ w.
+        landed ! 15 refl is₃ $ move ! (0 ∷ 2 ∷ 3 ∷ []) $ use3 W (raw (Of 𝓤 H A mem run .pre (to-of y₁ y₂ y₃ x₁ x₂ x₃))) (ask-of y₁ y₂ y₃ x₁ x₂ x₃) $
+        calls-at ! fm (Of 𝓤 H A mem run) known-of (to-of y₁ y₂ y₃ x₁ x₂ x₃) (and-then ! (local ! 21 refl) (both ! (local ! 17 refl) (local ! 13 refl))) (λ w.
         use1 W (later (some (λ (t : Triple). (‵ ftrue ⊛ ‵ (S.the-row .own t (w ∷ []))) ⊛ raw (ensured 𝓤 H A of.ended (of.clauses 𝓤 H A mem run) tt (y₁, (y₂, (y₃, tt))) tt t)))) (id⊢ 𝓤 _) $
         await ! tt $ pick ! (λ t. split ! $ move ! (1 ∷ []) $ use1 W (raw (fact 𝓤 (t ≡ made y₁ y₂ y₃))) (said-of y₁ y₂ y₃ t) $ heard ! (t ≡ made y₁ y₂ y₃) (λ e. split ! $ drop ! $
         -- [the result; the token; what s owns; _16; …]
@@ -156,24 +156,19 @@ module _ {M : Type 1} (𝓤 : URA M) (H : Heap 𝓤) (A : Atoms 𝓤) (W : Given
         move ! (5 ∷ 6 ∷ []) $ gone ! $ move ! (3 ∷ 4 ∷ []) $ gone ! $ free0 ! $ by ! (exits t w (right y₁ y₂ y₃ t e₁ e₂ e₃ e)))))))))))))))))))))))))))))
 
 module _ {M : Type 1} (𝓤 : URA M) (H : Heap 𝓤) (A : Atoms 𝓤) (W : Given 𝓤 H A) (mem : Memory → SProp 𝓤) (run : Routine → Fun 𝓤) where
-  three-walks : (C : Calls 𝓤 H) (Λ : Loops 𝓤 H) → FmC 𝓤 H (W .laws) C → Known 𝓤 (C #reader·from-bit) (From 𝓤 H A mem run) → Known 𝓤 (C #reader·take) (Take 𝓤 H A mem run)
-      → Known 𝓤 (C #reader·past) (Past 𝓤 H A mem run) → Known 𝓤 (C #reader·triple-of) (Of 𝓤 H A mem run) → Walks 𝓤 H A three.ended stayed (WpFn 𝓤 H C Λ code.function) (three.clauses 𝓤 H A mem run)
-  three-walks C Λ fm k₁ k₂ k₃ k₄ =
-      walked 𝓤 H A three.ended stayed (three.clauses 𝓤 H A mem run) (WpFn 𝓤 H C Λ code.function)
-      (λ κs. (slice-vals, (uint-vals w64, (uint-vals w64, (uint-vals w64, (uint-vals w64, tt))))))
-      (λ κs. (shr-slice-tells (named 0) (κs .0) u8, (uint-tells w64, (uint-tells w64, (uint-tells w64, (uint-tells w64, tt))))))
-      (λ κs qs bounds a g are. needs 𝓤 _ _ (λ ok.
-      walk 𝓤 H A W mem run (κs .0) (qs .0) (a .0) (a .1 .0) (a .1 .1 .0) (a .1 .1 .1 .0) (a .1 .1 .1 .1 .0)
-      (are .1 .0 .1) (are .1 .1 .0 .1) (are .1 .1 .1 .0 .1) (are .1 .1 .1 .1 .0 .1) ok C Λ fm k₁ k₂ k₃ k₄ (are .0)))
-
   three-meets : (𝓣 : Tables 𝓤 H) → Known 𝓤 (𝓣 .C #reader·from-bit) (From 𝓤 H A mem run) → Known 𝓤 (𝓣 .C #reader·take) (Take 𝓤 H A mem run)
       → Known 𝓤 (𝓣 .C #reader·past) (Past 𝓤 H A mem run) → Known 𝓤 (𝓣 .C #reader·triple-of) (Of 𝓤 H A mem run)
       → Meets 𝓤 H A three.signature (WpFn 𝓤 H (𝓣 .C) (𝓣 .Λ) code.function) (three.spec 𝓤 H A mem run)
   three-meets 𝓣 k₁ k₂ k₃ k₄ =
-      let number = goes-none 𝓤 H A W 1 (λ _. usize) yes (λ κs x f. refl) in
-      walk-meets 𝓤 H A three.ended stayed W (goes-none-slice 𝓤 H A W 1 (0 ∷ []) tt (plain (λ _. u8)) yes, (number, (number, (number, (number, tt)))))
+      let silent = goes-none 𝓤 H A W 1 (λ _. usize) yes (λ κs x f. refl) in
+      walk-meets 𝓤 H A three.ended stayed W (goes-none-slice 𝓤 H A W 1 (0 ∷ []) tt (plain (λ _. u8)) yes, (silent, (silent, (silent, (silent, tt)))))
       (three.clauses 𝓤 H A mem run) (WpFn 𝓤 H (𝓣 .C) (𝓣 .Λ) code.function) (WpFn-mono 𝓤 H (W .laws) 𝓣 code.function)
-      (three-walks (𝓣 .C) (𝓣 .Λ) (fmOf 𝓤 H (W .laws) 𝓣) k₁ k₂ k₃ k₄)
+      (walked 𝓤 H A three.ended stayed (three.clauses 𝓤 H A mem run) (WpFn 𝓤 H (𝓣 .C) (𝓣 .Λ) code.function)
+      (λ κs. (slice-vals, (uint-vals w64, (uint-vals w64, (uint-vals w64, (uint-vals w64, tt))))))
+      (λ κs. (shr-slice-tells (named 0) (κs .0) u8, (uint-tells w64, (uint-tells w64, (uint-tells w64, (uint-tells w64, tt))))))
+      (λ κs qs bounds a g are. needs 𝓤 _ _ (λ ok.
+      walk 𝓤 H A W mem run (κs .0) (qs .0) (a .0) (a .1 .0) (a .1 .1 .0) (a .1 .1 .1 .0) (a .1 .1 .1 .1 .0) (are .1 .0 .1) (are .1 .1 .0 .1) (are .1 .1 .1 .0 .1)
+      (are .1 .1 .1 .1 .0 .1) ok (𝓣 .C) (𝓣 .Λ) (fmOf 𝓤 H (W .laws) 𝓣) k₁ k₂ k₃ k₄ (are .0))))
 
 pub three-spec : {M : Type 1} → stated.statement M
 unfolding code.routine tablesOf
