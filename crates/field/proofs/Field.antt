@@ -5,12 +5,11 @@ use Prim.Native.Nat.{ℕ, zero, suc, _+_, _-_, _*_, _/_, _%_, _^_, _≤_, _<_}
 use native.Mathlib.Nat.{add-zero, add-suc, mul-assoc, pow-suc, mod-lt, add-assoc, div-eq-of-lt, div-one}
 use native.Mathlib.Omega.{arith}
 use native.Mathlib.Numerals.{add-one}
-use lib.ListN.{length, drop, getD, length-drop}
-use lib.Seq.{take-suc, getD-drop}
+use lib.ListN.{length, getD}
 use lib.Dec.{lit<, lit≤}
 use lib.Pow.{high, low, shr-shr}
 use Rattle.numbers.specs.Numbers.{Bytes, onto, numberAt}
-use Rattle.numbers.proofs.Numbers.{onto-snoc}
+use Rattle.numbers.proofs.Numbers.{number-next}
 use Rattle.field.specs.Bits.{bit, fieldAt}
 
 pub bit-lt : (s : List ℕ) (j : ℕ) → bit s j < 2
@@ -71,9 +70,7 @@ field-more s m n h =
 pub number-field : (s : List ℕ) (a n : ℕ) → Bytes s → a + n ≤ length s → numberAt s a n ≡ fieldAt s (8 * a) (8 * n)
 unfolding onto fieldAt
 number-field s a zero b h = refl
-number-field s a (suc n) b h =
-    let l : n < length (drop a s) = rw length-drop (omega arith) in
-    rw (take-suc (drop a s) n 0, onto-snoc, getD-drop, number-field s a n b (omega arith), ← add-one n) (sym (field-more s a n (b (a + n))))
+number-field s a (suc n) b h = rw (← add-one n) (number-next s a n (omega arith) ∙ rw (number-field s a n b (omega arith)) (sym (field-more s a n (b (a + n)))))
 
 -- the field of w bits at bit a, out of the bytes that it stands in
 pub field-out : (s : List ℕ) (a w : ℕ) → fieldAt s (8 * (a / 8)) (8 * ((a + w + 7) / 8 - a / 8)) / 2 ^ ((a + w + 7) / 8 * 8 - (a + w)) % 2 ^ w ≡ fieldAt s a w

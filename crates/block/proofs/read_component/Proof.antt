@@ -72,24 +72,6 @@ returns c =
 
 pub read-component-spec : {M : Type 1} → statement M
 read-component-spec =
-    tie.close
-    (tie.spec
-    Inv-loop
-    μ-loop
-    (λ c κs. search needs)
-    loop-holds
-    (λ c κs. search needs)
-    (λ c κs. search needs)
-    cast-c
-    (λ c. search needs)
-    (λ c. search needs)
-    cast-c-2
-    (λ c. search needs)
-    (λ c. search needs)
-    cast-c-3
-    (λ c. search needs)
-    (λ c. search needs)
-    (λ c. search needs)
-    (λ c. search needs)
-    loop-again
-    returns)
+    tie.close (tie.spec Inv-loop μ-loop (λ c κs. search needs) loop-holds (λ c κs. search needs) (λ c κs. search needs) cast-c
+    (λ c. search needs) (λ c. search needs) cast-c-2 (λ c. search needs) (λ c. search needs) cast-c-3 (λ c. search needs)
+    (λ c. search needs) (λ c. search needs) (λ c. search needs) loop-again returns)

@@ -41,17 +41,5 @@ cast-result c =
 
 pub field-at-spec : {M : Type 1} → statement M
 field-at-spec =
-    tie.close
-    (tie.spec
-    (λ c. search needs)
-    (λ c. search needs)
-    (λ c. search needs)
-    (λ c κs. search needs)
-    (λ c. search needs)
-    (λ c. search needs)
-    (λ c κs. search needs)
-    div-result
-    (λ c κs. search needs)
-    rem-result
-    cast-result
-    got)
+    tie.close (tie.spec (λ c. search needs) (λ c. search needs) (λ c. search needs) (λ c κs. search needs) (λ c. search needs)
+    (λ c. search needs) (λ c κs. search needs) div-result (λ c κs. search needs) rem-result cast-result got)

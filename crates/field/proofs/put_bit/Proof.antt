@@ -57,18 +57,5 @@ returns c = rw (c .wide .ensures .0, c .before .before .pow2 .ensures)
 
 pub put-bit-spec : {M : Type 1} → statement M
 put-bit-spec =
-    tie.close
-    (tie.spec
-    (λ c. search needs)
-    (λ c κs. search needs)
-    (λ c. search needs)
-    (λ c κs. search needs)
-    div-dst
-    mul-dst
-    sub-dst
-    mul-dst-2
-    add-dst
-    cast-dst
-    (λ c. search needs)
-    (λ c. search needs)
-    returns)
+    tie.close (tie.spec (λ c. search needs) (λ c κs. search needs) (λ c. search needs) (λ c κs. search needs) div-dst mul-dst sub-dst
+    mul-dst-2 add-dst cast-dst (λ c. search needs) (λ c. search needs) returns)
