@@ -1,5 +1,4 @@
--- `plan::bad_alone` meets its contract.
--- Assumes nothing.
+-- `plan::bad_alone` meets its contract. Assumes nothing.
 use borrow.Author.Tests.{lt-ltb, le-ltb}
 use Rattle.plan.proofs.bad_alone.Statement.{statement}
 use Rattle.plan.proofs.bad_alone.Tie as tie

@@ -1,5 +1,4 @@
--- `plan::bad_counts` meets its contract.
--- Assumes nothing.
+-- `plan::bad_counts` meets its contract. Assumes nothing.
 use borrow.Author.Needs.{needs}
 use mathlib.Core.Path.{sym, _∙_}
 use Prim.Native.Nat.{_-_}
@@ -34,16 +33,5 @@ returns-2 c =
 
 pub bad-counts-spec : {M : Type 1} → statement M
 bad-counts-spec =
-    tie.close
-    (tie.spec
-    Inv-loop
-    μ-loop
-    (λ c. search-starts (λ i. badCount (componentAt (c .args .t1) i)) (c .args .t1 .count))
-    (λ c. search needs)
-    (λ c. search needs)
-    (λ c κs. search needs)
-    returns
-    (λ c. search needs)
-    (λ c. search needs)
-    loop-again
-    returns-2)
+    tie.close (tie.spec Inv-loop μ-loop (λ c. search-starts (λ i. badCount (componentAt (c .args .t1) i)) (c .args .t1 .count)) (λ c. search needs)
+    (λ c. search needs) (λ c κs. search needs) returns (λ c. search needs) (λ c. search needs) loop-again returns-2)

@@ -1,5 +1,4 @@
--- `plan::bad_entries` meets its contract.
--- Assumes nothing.
+-- `plan::bad_entries` meets its contract. Assumes nothing.
 use borrow.Author.Needs.{needs}
 use mathlib.Core.Path.{sym, ap, _∙_}
 use Prim.Native.Nat.{_-_}
@@ -40,17 +39,6 @@ returns-2 c =
 
 pub bad-entries-spec : {M : Type 1} → statement M
 bad-entries-spec =
-    tie.close
-    (tie.spec
-    Inv-loop
-    μ-loop
-    (λ c κs. search needs)
+    tie.close (tie.spec Inv-loop μ-loop (λ c κs. search needs)
     (λ c. search-starts (λ i. badEntry (c .before .args .n) (entryOf (getD (c .before .args .t1) i 0))) (entryCount (c .before .args .n)))
-    (λ c. search needs)
-    (λ c κs. search needs)
-    (λ c κs. search needs)
-    returns
-    (λ c. search needs)
-    (λ c. search needs)
-    loop-again
-    returns-2)
+    (λ c. search needs) (λ c κs. search needs) (λ c κs. search needs) returns (λ c. search needs) (λ c. search needs) loop-again returns-2)

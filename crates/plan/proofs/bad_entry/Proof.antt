@@ -1,5 +1,4 @@
--- `plan::bad_entry` meets its contract.
--- Assumes nothing.
+-- `plan::bad_entry` meets its contract. Assumes nothing.
 use borrow.Author.Needs.{needs}
 use Rattle.plan.proofs.bad_entry.Statement.{statement}
 use Rattle.plan.proofs.bad_entry.Tie as tie

@@ -1,5 +1,4 @@
--- `plan::bad_intervals` meets its contract.
--- Assumes nothing.
+-- `plan::bad_intervals` meets its contract. Assumes nothing.
 use borrow.Author.Needs.{needs}
 use mathlib.Core.Path.{sym, _∙_}
 use Prim.Native.Nat.{_-_}
@@ -23,14 +22,5 @@ loop-again c = search-goes-on (c .before .before .before .loop .inv) (omega arit
 
 pub bad-intervals-spec : {M : Type 1} → statement M
 bad-intervals-spec =
-    tie.close
-    (tie.spec
-    Inv-loop
-    μ-loop
-    (λ c. search-starts (badInterval (c .args .c)) (c .args .c .count))
-    (λ c κs. search needs)
-    returns
-    (λ c. search needs)
-    (λ c. search needs)
-    loop-again
-    (λ c. search-ends (c .before .loop .inv) (omega arith)))
+    tie.close (tie.spec Inv-loop μ-loop (λ c. search-starts (badInterval (c .args .c)) (c .args .c .count)) (λ c κs. search needs) returns
+    (λ c. search needs) (λ c. search needs) loop-again (λ c. search-ends (c .before .loop .inv) (omega arith)))

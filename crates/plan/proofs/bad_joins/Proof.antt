@@ -1,5 +1,4 @@
--- `plan::bad_joins` meets its contract.
--- Assumes nothing.
+-- `plan::bad_joins` meets its contract. Assumes nothing.
 use borrow.Author.Needs.{needs}
 use borrow.Author.Tests.{ltb-true, ltb-false}
 use mathlib.Core.Path.{_≡_, sym, ap, _∙_}
@@ -64,21 +63,5 @@ returns-2 c =
 
 pub bad-joins-spec : {M : Type 1} → statement M
 bad-joins-spec =
-    tie.close
-    (tie.spec
-    Inv-loop
-    μ-loop
-    (λ c κs. search needs)
-    loop-holds
-    (λ c. search needs)
-    (λ c κs. search needs)
-    (λ c. search needs)
-    (λ c. search needs)
-    (λ c. search needs)
-    (λ c κs. search needs)
-    returns
-    sub-height
-    (λ c. search needs)
-    (λ c. search needs)
-    loop-again
-    returns-2)
+    tie.close (tie.spec Inv-loop μ-loop (λ c κs. search needs) loop-holds (λ c. search needs) (λ c κs. search needs) (λ c. search needs)
+    (λ c. search needs) (λ c. search needs) (λ c κs. search needs) returns sub-height (λ c. search needs) (λ c. search needs) loop-again returns-2)

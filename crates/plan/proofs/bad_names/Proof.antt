@@ -1,5 +1,4 @@
--- `plan::bad_names` meets its contract.
--- Assumes nothing.
+-- `plan::bad_names` meets its contract. Assumes nothing.
 use borrow.Author.Needs.{needs}
 use borrow.Author.Tests.{eq-eqb, ne-eqb}
 use mathlib.Core.Path.{ap}
@@ -35,14 +34,5 @@ returns-2 c = search-ends (c .before .loop .inv) (omega arith)
 
 pub bad-names-spec : {M : Type 1} → statement M
 bad-names-spec =
-    tie.close
-    (tie.spec
-    Inv-loop
-    μ-loop
-    (λ c. search-starts (badNaming (structureIn (c .args .entries) (c .args .n))) (c .args .n))
-    (λ c κs. search needs)
-    returns
-    (λ c. search needs)
-    (λ c. search needs)
-    loop-again
-    returns-2)
+    tie.close (tie.spec Inv-loop μ-loop (λ c. search-starts (badNaming (structureIn (c .args .entries) (c .args .n))) (c .args .n))
+    (λ c κs. search needs) returns (λ c. search needs) (λ c. search needs) loop-again returns-2)

@@ -1,5 +1,4 @@
--- `plan::component_flaws` meets its contract.
--- Assumes nothing.
+-- `plan::component_flaws` meets its contract. Assumes nothing.
 use borrow.Author.Needs.{needs}
 use Rattle.plan.proofs.component_flaws.Statement.{statement}
 use Rattle.plan.proofs.component_flaws.Tie as tie

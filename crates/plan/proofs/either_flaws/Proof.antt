@@ -1,5 +1,4 @@
--- `plan::either_flaws` meets its contract.
--- Assumes nothing.
+-- `plan::either_flaws` meets its contract. Assumes nothing.
 use borrow.Author.Needs.{needs}
 use Rattle.plan.proofs.either_flaws.Statement.{statement}
 use Rattle.plan.proofs.either_flaws.Tie as tie

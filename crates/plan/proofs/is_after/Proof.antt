@@ -1,5 +1,4 @@
--- `plan::is_after` meets its contract.
--- Assumes nothing.
+-- `plan::is_after` meets its contract. Assumes nothing.
 use borrow.Author.Tests.{lt-ltb, le-ltb, eq-eqb, ne-eqb}
 use Rattle.plan.proofs.is_after.Statement.{statement}
 use Rattle.plan.proofs.is_after.Tie as tie

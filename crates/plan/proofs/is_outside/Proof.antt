@@ -1,5 +1,4 @@
--- `plan::is_outside` meets its contract.
--- Assumes nothing.
+-- `plan::is_outside` meets its contract. Assumes nothing.
 use borrow.Author.Tests.{lt-ltb, le-ltb}
 use Rattle.plan.proofs.is_outside.Statement.{statement}
 use Rattle.plan.proofs.is_outside.Tie as tie

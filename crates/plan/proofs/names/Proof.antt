@@ -1,5 +1,4 @@
--- `plan::names` meets its contract.
--- Assumes nothing.
+-- `plan::names` meets its contract. Assumes nothing.
 use borrow.Author.Needs.{needs}
 use borrow.Author.Tests.{eq-eqb, ne-eqb}
 use native.Mathlib.Omega.{arith}

@@ -1,5 +1,4 @@
--- `plan::plan_flaws` meets its contract.
--- Assumes nothing.
+-- `plan::plan_flaws` meets its contract. Assumes nothing.
 use borrow.Author.Needs.{needs}
 use mathlib.Core.Path.{_≡_, ap, _∙_}
 use mathlib.Core.List.{map}
@@ -36,17 +35,5 @@ returns c =
 
 pub plan-flaws-spec : {M : Type 1} → statement M
 plan-flaws-spec =
-    tie.close
-    (tie.spec
-    Inv-loop
-    μ-loop
-    (λ c κs. search needs)
-    (λ c. (omega arith, c .no-flaws .ensures))
-    (λ c. search needs)
-    (λ c. search needs)
-    component-flaws-requires
-    (λ c κs. search needs)
-    (λ c. search needs)
-    (λ c. search needs)
-    loop-again
-    returns)
+    tie.close (tie.spec Inv-loop μ-loop (λ c κs. search needs) (λ c. (omega arith, c .no-flaws .ensures)) (λ c. search needs) (λ c. search needs)
+    component-flaws-requires (λ c κs. search needs) (λ c. search needs) (λ c. search needs) loop-again returns)

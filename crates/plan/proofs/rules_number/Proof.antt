@@ -1,5 +1,4 @@
--- `plan::rules_number` meets its contract.
--- Assumes nothing.
+-- `plan::rules_number` meets its contract. Assumes nothing.
 use borrow.Author.Needs.{needs}
 use mathlib.Core.Path.{_∙_}
 use Rattle.plan.proofs.rules_number.Statement.{statement}
@@ -23,15 +22,5 @@ returns c =
 
 pub rules-number-spec : {M : Type 1} → statement M
 rules-number-spec =
-    tie.close
-    (tie.spec
-    (λ c κs. search needs)
-    (λ c κs. search needs)
-    (λ c κs. search needs)
-    (λ c κs. search needs)
-    (λ c κs. search needs)
-    (λ c κs. search needs)
-    (λ c κs. search needs)
-    (λ c κs. search needs)
-    (λ c κs. search needs)
-    returns)
+    tie.close (tie.spec (λ c κs. search needs) (λ c κs. search needs) (λ c κs. search needs) (λ c κs. search needs) (λ c κs. search needs)
+    (λ c κs. search needs) (λ c κs. search needs) (λ c κs. search needs) (λ c κs. search needs) returns)

@@ -1,5 +1,4 @@
--- `reading::layout_number` meets its contract.
--- Assumes nothing.
+-- `reading::layout_number` meets its contract. Assumes nothing.
 use borrow.Author.Needs.{needs}
 use borrow.Author.Tests.{eq-eqb, ne-eqb}
 use mathlib.Core.Path.{_≡_, sym, _∙_}
@@ -53,16 +52,5 @@ returns-5 c =
 
 pub layout-number-spec : {M : Type 1} → statement M
 layout-number-spec =
-    tie.close
-    (tie.spec
-    returns
-    (λ c. search needs)
-    returns-2
-    returns-3
-    (λ c κs. search needs)
-    (λ c. search needs)
-    (λ c. search needs)
-    (λ c. search needs)
-    (λ c κs. search needs)
-    returns-4
-    returns-5)
+    tie.close (tie.spec returns (λ c. search needs) returns-2 returns-3 (λ c κs. search needs) (λ c. search needs) (λ c. search needs)
+    (λ c. search needs) (λ c κs. search needs) returns-4 returns-5)

@@ -1,5 +1,4 @@
--- `reading::no_blocks` meets its contract.
--- Assumes nothing.
+-- `reading::no_blocks` meets its contract. Assumes nothing.
 use borrow.Author.Needs.{needs}
 use Rattle.reading.proofs.no_blocks.Statement.{statement}
 use Rattle.reading.proofs.no_blocks.Tie as tie

@@ -1,5 +1,4 @@
--- `reading::read_entries` meets its contract.
--- Assumes nothing.
+-- `reading::read_entries` meets its contract. Assumes nothing.
 use borrow.Author.Needs.{needs}
 use mathlib.Core.Path.{_≡_, refl, ap, _∙_}
 use mathlib.Core.List.{List}
@@ -51,17 +50,5 @@ returns c =
 
 pub read-entries-spec : {M : Type 1} → statement M
 read-entries-spec =
-    tie.close
-    (tie.spec
-    Inv-loop
-    μ-loop
-    loop-holds
-    (λ c. search needs)
-    (λ c. search needs)
-    (λ c κs. search needs)
-    cast-entries
-    (λ c. search needs)
-    (λ c. search needs)
-    (λ c. search needs)
-    loop-again
-    returns)
+    tie.close (tie.spec Inv-loop μ-loop loop-holds (λ c. search needs) (λ c. search needs) (λ c κs. search needs) cast-entries (λ c. search needs)
+    (λ c. search needs) (λ c. search needs) loop-again returns)

@@ -1,5 +1,4 @@
--- `reading::read_head` meets its contract.
--- Assumes nothing.
+-- `reading::read_head` meets its contract. Assumes nothing.
 use borrow.Author.Needs.{needs}
 use borrow.Author.Tests.{lt-ltb, le-ltb, eq-eqb, ne-eqb}
 use mathlib.Core.Path.{_≡_, sym, ap, _∙_}
@@ -80,14 +79,5 @@ returns-5 c =
 
 pub read-head-spec : {M : Type 1} → statement M
 read-head-spec =
-    tie.close
-    (tie.spec
-    returns
-    (λ c κs. search needs)
-    (λ c. search needs)
-    returns-2
-    returns-3
-    (λ c. search needs)
-    (λ c κs. search needs)
-    returns-4
+    tie.close (tie.spec returns (λ c κs. search needs) (λ c. search needs) returns-2 returns-3 (λ c. search needs) (λ c κs. search needs) returns-4
     returns-5)

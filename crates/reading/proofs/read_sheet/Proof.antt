@@ -1,5 +1,4 @@
--- `reading::read_sheet` meets its contract.
--- Assumes nothing.
+-- `reading::read_sheet` meets its contract. Assumes nothing.
 use borrow.Author.Needs.{needs}
 use mathlib.Core.Path.{_≡_, refl, sym, ap, _∙_}
 use mathlib.Core.Bool.{false}
@@ -135,19 +134,7 @@ returns-4 c =
 
 pub read-sheet-spec : {M : Type 1} → statement M
 read-sheet-spec =
-    tie.close
-    (tie.spec
-    (λ c κs. search needs)
-    (λ c κs. search needs)
-    returns
-    (λ c κs. (omega (arith, counted-n c .most), has c .long))
-    layout-number-requires
-    (λ c κs. search needs)
-    returns-2
-    (λ c κs. counted-n (at c))
-    (λ c. omega (arith, ends (c .before), has (at (c .before)) .short))
-    read-entries-requires
-    (λ c κs. counted-n (at (c .before .before .before)))
-    (λ c κs. search needs)
-    returns-3
-    returns-4)
+    tie.close (tie.spec (λ c κs. search needs) (λ c κs. search needs) returns (λ c κs. (omega (arith, counted-n c .most), has c .long))
+    layout-number-requires (λ c κs. search needs) returns-2 (λ c κs. counted-n (at c))
+    (λ c. omega (arith, ends (c .before), has (at (c .before)) .short)) read-entries-requires (λ c κs. counted-n (at (c .before .before .before)))
+    (λ c κs. search needs) returns-3 returns-4)

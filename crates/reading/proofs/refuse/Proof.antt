@@ -1,5 +1,4 @@
--- `reading::refuse` meets its contract.
--- Assumes nothing.
+-- `reading::refuse` meets its contract. Assumes nothing.
 use borrow.Author.Needs.{needs}
 use Rattle.reading.proofs.refuse.Statement.{statement}
 use Rattle.reading.proofs.refuse.Tie as tie

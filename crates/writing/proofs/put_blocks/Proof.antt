@@ -1,5 +1,4 @@
--- `writing::put_blocks` meets its contract.
--- Assumes nothing.
+-- `writing::put_blocks` meets its contract. Assumes nothing.
 use borrow.Author.Needs.{needs}
 use mathlib.Core.Path.{_≡_, refl, sym, ap, _∙_}
 use mathlib.Core.List.{List}
@@ -67,21 +66,6 @@ returns c =
 
 pub put-blocks-spec : {M : Type 1} → statement M
 put-blocks-spec =
-    tie.close
-    (tie.spec
-    Inv-loop
-    μ-loop
-    loop-holds
-    (λ c. search needs)
-    (λ c. search needs)
-    (λ c. search needs)
-    (λ c. omega (arith, c .before .before .loop .inv .1, c .before .before .before .before .pre .1))
-    (λ c. search needs)
-    write-block-requires
-    block-size-requires
-    add-end
-    (λ c. search needs)
-    (λ c. search needs)
-    loop-again
-    (λ c. c .before .loop .inv .3)
-    returns)
+    tie.close (tie.spec Inv-loop μ-loop loop-holds (λ c. search needs) (λ c. search needs) (λ c. search needs)
+    (λ c. omega (arith, c .before .before .loop .inv .1, c .before .before .before .before .pre .1)) (λ c. search needs) write-block-requires
+    block-size-requires add-end (λ c. search needs) (λ c. search needs) loop-again (λ c. c .before .loop .inv .3) returns)

@@ -1,5 +1,4 @@
--- `writing::put_sheet` meets its contract.
--- Assumes nothing.
+-- `writing::put_sheet` meets its contract. Assumes nothing.
 use borrow.Author.Needs.{needs}
 use mathlib.Core.Path.{_≡_, ap, _∙_}
 use Prim.Native.Nat.{ℕ, _-_, _*_}
@@ -60,18 +59,7 @@ returns c =
 
 pub put-sheet-spec : {M : Type 1} → statement M
 put-sheet-spec =
-    tie.close
-    (tie.spec
-    (λ c. omega (arith, has (c .before .before)))
-    (λ c. omega (arith, has (c .before .before)))
-    (λ c. search needs)
-    (λ c. omega (arith, has (start c)))
-    put-three-requires
-    (λ c κs. (start-2 c .pre .0, omega (arith, has (start-2 c))))
-    put-entries-requires
-    (λ c κs. start-4 c .pre .0 .counted)
-    (λ c. omega (arith, has (start-4 (c .before)), c .entry-count .ensures))
-    (λ c. omega (arith, has (start-4 (c .before)), c .entry-count .ensures))
-    put-field-requires
-    (λ c. search needs)
-    returns)
+    tie.close (tie.spec (λ c. omega (arith, has (c .before .before))) (λ c. omega (arith, has (c .before .before))) (λ c. search needs)
+    (λ c. omega (arith, has (start c))) put-three-requires (λ c κs. (start-2 c .pre .0, omega (arith, has (start-2 c)))) put-entries-requires
+    (λ c κs. start-4 c .pre .0 .counted) (λ c. omega (arith, has (start-4 (c .before)), c .entry-count .ensures))
+    (λ c. omega (arith, has (start-4 (c .before)), c .entry-count .ensures)) put-field-requires (λ c. search needs) returns)

@@ -1,5 +1,4 @@
--- `writing::sheet_length` meets its contract.
--- Assumes nothing.
+-- `writing::sheet_length` meets its contract. Assumes nothing.
 use borrow.Author.Needs.{needs}
 use mathlib.Core.Path.{_≡_}
 use Prim.Native.Nat.{_+_, _-_, _≤_}
@@ -40,17 +39,5 @@ returns c = omega (arith, bytes-end (c .before .before .args .t1) (c .before .lo
 
 pub sheet-length-spec : {M : Type 1} → statement M
 sheet-length-spec =
-    tie.close
-    (tie.spec
-    Inv-loop
-    μ-loop
-    (λ c. (omega arith, bytes-start (c .args .t1)))
-    (λ c. search needs)
-    (λ c. search needs)
-    block-size-requires
-    add-end
-    (λ c. search needs)
-    (λ c. search needs)
-    loop-again
-    add-result
-    returns)
+    tie.close (tie.spec Inv-loop μ-loop (λ c. (omega arith, bytes-start (c .args .t1))) (λ c. search needs) (λ c. search needs) block-size-requires
+    add-end (λ c. search needs) (λ c. search needs) loop-again add-result returns)

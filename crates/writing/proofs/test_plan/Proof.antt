@@ -1,5 +1,4 @@
--- `writing::test_plan` meets its contract.
--- Assumes nothing.
+-- `writing::test_plan` meets its contract. Assumes nothing.
 use borrow.Author.Needs.{needs}
 use borrow.Author.Tests.{lt-ltb}
 use mathlib.Core.Path.{_≡_, refl, sym, ap, _∙_}
@@ -94,19 +93,6 @@ returns-5 c =
 
 pub test-plan-spec : {M : Type 1} → statement M
 test-plan-spec =
-    tie.close
-    (tie.spec
-    (λ c κs. search needs)
-    (λ c κs. search needs)
-    returns
-    bad-counts-requires
-    (λ c κs. search needs)
-    returns-2
-    (λ c κs. is-sized (c .before))
-    (λ c κs. is-sized (c .before .before) .counted)
-    (λ c κs. search needs)
-    returns-3
-    (λ c κs. is-sized (c .before .before .before .before))
-    (λ c κs. search needs)
-    returns-4
-    returns-5)
+    tie.close (tie.spec (λ c κs. search needs) (λ c κs. search needs) returns bad-counts-requires (λ c κs. search needs) returns-2
+    (λ c κs. is-sized (c .before)) (λ c κs. is-sized (c .before .before) .counted) (λ c κs. search needs) returns-3
+    (λ c κs. is-sized (c .before .before .before .before)) (λ c κs. search needs) returns-4 returns-5)

@@ -1,5 +1,4 @@
--- `writing::write_sheet` meets its contract.
--- Assumes nothing.
+-- `writing::write_sheet` meets its contract. Assumes nothing.
 use borrow.Author.Needs.{needs}
 use mathlib.Core.Path.{_≡_, sym, ap, _∙_}
 use mathlib.Core.List.{List}
