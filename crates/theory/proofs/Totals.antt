@@ -1,9 +1,9 @@
 -- The weights of a list add up to the product of the totals under it, and speeds stay below a bound that joins keep: so all numbers fit. Assumes nothing.
 use Prim.Native.Nat.{ℕ, _+_, _*_, _^_, _≤_, _<_}
-use mathlib.Core.Path.{_≡_, refl, sym, ap, _∙_, subst}
-use mathlib.Core.List.{List, map}
+use mathlib.Core.Path.{_≡_, refl, sym, ap, ap₂, subst, _∙_}
+use mathlib.Core.List.{List, [], _∷_, _++_, map}
 use mathlib.Core.Bool.{true}
-use native.Mathlib.Nat.{mul-comm, mul-le-mul, le-trans, le-of-eq, pow-zero, pow-suc, pow-le-pow-right}
+use native.Mathlib.Nat.{mul-one, one-mul, mul-assoc, mul-comm, mul-le-mul, le-trans, le-of-eq, pow-zero, pow-suc, pow-le-pow-right}
 use native.Mathlib.Omega.{arith}
 use lib.Pow.{pow-add}
 use lib.ListN.{length, getD, length-append}
@@ -33,6 +33,23 @@ weights-pairs op fs gs =
     ∙ (weigh-pairs (λ a b. 1) op fs gs
     ∙ (sum-ext (λ f. ap (f .weight *_) (sym (weights-weigh gs)) ∙ mul-comm (f .weight) (weights gs)) fs
     ∙ (sum-scale (weights gs) (λ f. f .weight) fs ∙ mul-comm (weights gs) (weights fs))))
+
+-- The weights of a sub-structure's list, and of the drive's, add up to the product of the totals under it.
+abbrev pub totalOf : List Component → Tree → ℕ
+totalOf cs t = productBy (λ i. (getD cs i noComponent) .total) (leaves t)
+
+product-append : {A : Type 0} (f : A → ℕ) (xs ys : List A) → productBy f (xs ++ ys) ≡ productBy f xs * productBy f ys
+product-append f [] ys = sym (one-mul (productBy f ys))
+product-append f (x ∷ xs) ys = ap (f x *_) (product-append f xs ys) ∙ sym (mul-assoc (f x) (productBy f xs) (productBy f ys))
+
+weights-outcomesOf : {cs : List Component} → Balanced cs → (t : Tree) → weights (outcomesOf cs t) ≡ totalOf cs t
+weights-outcomesOf p (leaf i) = every-getD (λ c. weights (masses c) ≡ c .total) noComponent refl p i ∙ sym (mul-one _)
+weights-outcomesOf {cs} p (node op l r) =
+    weights-pairs op (outcomesOf cs l) (outcomesOf cs r)
+    ∙ (ap₂ _*_ (weights-outcomesOf p l) (weights-outcomesOf p r) ∙ sym (product-append (λ i. (getD cs i noComponent) .total) (leaves l) (leaves r)))
+
+pub weights-listOf : {cs : List Component} → Balanced cs → (t : Tree) → weights (listOf cs t) ≡ totalOf cs t
+weights-listOf {cs} p t = weights-collect (outcomesOf cs t) ∙ weights-outcomesOf p t
 
 weights-choices : {cs : List Component} → Balanced cs → sumBy (productBy (λ f. f .weight)) (choices cs) ≡ total cs
 weights-choices Every.none = refl
