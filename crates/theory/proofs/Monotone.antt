@@ -31,11 +31,9 @@ joined-le Spare a b = omega arith
 pub test-mono : (d a b : ℕ) → a ≤ b → cond (leb d a) 1 0 ≤ cond (leb d b) 1 0
 test-mono d a b h = go (leb d a) refl
   where
-    go : (t : Bool) → leb d a ≡ t → cond (leb d a) 1 0 ≤ cond (leb d b) 1 0
-    go true e =
-        let k : d ≤ a = leb-true d a e in
-        rw e (rw (le-leb d b (omega arith)) (le-refl 1))
-    go false e = rw e (omega arith)
+    go : (t : Bool) → leb d a ≡ t → cond t 1 0 ≤ cond (leb d b) 1 0
+    go true e = rw (le-leb d b (omega (arith, leb-true d a e))) (le-refl 1)
+    go false e = omega arith
 
 -- What is said of the lows from below and of the highs from above is said once, over the side.
 pub data Side : Type 0 where
@@ -46,7 +44,7 @@ abbrev pub end : Side → Focal → ℕ
 end lower f = f .low
 end upper f = f .high
 
--- a bounds b from that side.
+-- Of two numbers the first bounds the second from that side.
 pub data Bounding : Side → ℕ → ℕ → Type 0 where
   least : {a b : ℕ} → a ≤ b → Bounding lower a b
   greatest : {a b : ℕ} → b ≤ a → Bounding upper a b
