@@ -1,15 +1,15 @@
 -- `collect` puts a list in order and keeps every weighted sum; a list in order is determined by its weights. Assumes nothing.
 use Prim.Native.Nat.{ℕ, _+_, _*_, Ordering, Ordering·lt, Ordering·eq, Ordering·gt}
 use mathlib.Core.Path.{_≡_, refl, sym, ap, ap₂, _∙_}
-use mathlib.Core.Bool.{cond, _&&_}
+use mathlib.Core.Bool.{Bool, true, cond, _&&_}
 use mathlib.Core.List.{List, [], _∷_}
-use native.Mathlib.Nat.{add-mul}
+use native.Mathlib.Nat.{add-mul, mul-one}
 use native.Mathlib.Omega.{arith}
 use lib.Dec.{leb, eqb}
 use borrow.Author.Tests.{eq-eqb}
 use Rattle.theory.specs.Sums.{sumBy, Every}
-use Rattle.theory.specs.Focal.{Focal, Positive}
-use Rattle.theory.specs.Choices.{belief, plausibility}
+use Rattle.theory.specs.Focal.{Focal, weights, Positive}
+use Rattle.theory.specs.Choices.{weightWhere, belief, plausibility, weightAt}
 use Rattle.theory.specs.Lists.{order, Before, InOrder, merged, insertedAt, inserted, collect}
 use Rattle.theory.proofs.Sums.{sum-ext, cond-mul}
 use Rattle.theory.proofs.Order.{Placed, placed, before-trans, before-apart}
@@ -21,14 +21,14 @@ weigh k = sumBy (λ f. f .weight * k (f .low) (f .high))
 
 pub weigh-insert : (k : ℕ → ℕ → ℕ) (f : Focal) (gs : List Focal) → weigh k (inserted f gs) ≡ f .weight * k (f .low) (f .high) + weigh k gs
 weigh-insert k f [] = refl
-weigh-insert k f (g ∷ gs) = go (order f g) (placed f g) (weigh-insert k f gs)
+weigh-insert k f (g ∷ gs) = go (placed f g) (weigh-insert k f gs)
   where
-    go : (o : Ordering) → Placed f g o → weigh k (inserted f gs) ≡ f .weight * k (f .low) (f .high) + weigh k gs
+    go : {o : Ordering} → Placed f g o → weigh k (inserted f gs) ≡ f .weight * k (f .low) (f .high) + weigh k gs
         → weigh k (insertedAt o f g gs (inserted f gs)) ≡ f .weight * k (f .low) (f .high) + weigh k (g ∷ gs)
-    go Ordering·lt p r = refl
-    go Ordering·eq (Placed.same p q) r =
+    go (Placed.before p) r = refl
+    go (Placed.same p q) r =
         rw (p, q) (omega (arith, add-mul (f .weight) (g .weight) (k (g .low) (g .high))))
-    go Ordering·gt p r = omega arith
+    go (Placed.after p) r = omega arith
 
 -- Every weighted sum is kept: belief, plausibility, the weight at an interval, and the total with them.
 pub weigh-collect : (k : ℕ → ℕ → ℕ) (fs : List Focal) → weigh k (collect fs) ≡ weigh k fs
@@ -50,40 +50,49 @@ before-all f g p b = Every.more p (every-map (λ h q. before-trans f g h p q) b)
 
 pub order-insert : (f : Focal) {gs : List Focal} → InOrder gs → InOrder (inserted f gs)
 order-insert f InOrder.none = InOrder.more Every.none InOrder.none
-order-insert f (InOrder.more {f = g} {fs = gs} b r) = go (order f g) (placed f g) (order-insert f r)
+order-insert f (InOrder.more {f = g} {fs = gs} b r) = go (placed f g) (order-insert f r)
   where
-    go : (o : Ordering) → Placed f g o → InOrder (inserted f gs) → InOrder (insertedAt o f g gs (inserted f gs))
-    go Ordering·lt (Placed.before p) s = InOrder.more (before-all f g p b) (InOrder.more b r)
-    go Ordering·eq p s = InOrder.more b r
-    go Ordering·gt (Placed.after p) s = InOrder.more (every-insert (Before g) (λ h j q t. t) f p b) s
+    go : {o : Ordering} → Placed f g o → InOrder (inserted f gs) → InOrder (insertedAt o f g gs (inserted f gs))
+    go (Placed.before p) s = InOrder.more (before-all f g p b) (InOrder.more b r)
+    go (Placed.same p q) s = InOrder.more b r
+    go (Placed.after p) s = InOrder.more (every-insert (Before g) (λ h j q t. t) f p b) s
 
 pub order-collect : (fs : List Focal) → InOrder (collect fs)
 order-collect [] = InOrder.none
 order-collect (f ∷ fs) = order-insert f (order-collect fs)
 
+-- What holds of every interval, and of two that become one, holds of each interval that is collected.
+pub every-collect : (P : Focal → Type 0) → ((f g : Focal) → P f → P g → P (merged f g)) → {fs : List Focal} → Every P fs → Every P (collect fs)
+every-collect P m Every.none = Every.none
+every-collect P m (Every.more {x = f} p r) = every-insert P m f p (every-collect P m r)
+
 pub positive-collect : {fs : List Focal} → Every Positive fs → Every Positive (collect fs)
-positive-collect Every.none = Every.none
-positive-collect (Every.more {x = f} p r) = every-insert Positive (λ g h q t. omega arith) f p (positive-collect r)
+positive-collect = every-collect Positive (λ g h q t. omega arith)
 
--- The weight that a list has at one interval.
-abbrev pub weightAt : ℕ → ℕ → List Focal → ℕ
-weightAt a b = sumBy (λ f. cond (eqb a (f .low) && eqb b (f .high)) (f .weight) 0)
+-- The weights that pass a test are a weighted sum: so belief, plausibility, the weight at an interval and the sum of the weights are kept.
+where-weigh : (test : ℕ → ℕ → Bool) (fs : List Focal) → weightWhere test fs ≡ weigh (λ a b. cond (test a b) 1 0) fs
+where-weigh test fs = sum-ext (λ f. cond-mul (test (f .low) (f .high)) (f .weight)) fs
 
--- the weight at an interval as a weighted sum
-abbrev pub is : ℕ → ℕ → ℕ → ℕ → ℕ
-is a b c d = cond (eqb a c && eqb b d) 1 0
+pub where-collect : (test : ℕ → ℕ → Bool) (fs : List Focal) → weightWhere test (collect fs) ≡ weightWhere test fs
+where-collect test fs = where-weigh test (collect fs) ∙ (weigh-collect _ fs ∙ sym (where-weigh test fs))
 
-pub weightAt-weigh : (a b : ℕ) (fs : List Focal) → weightAt a b fs ≡ weigh (is a b) fs
-weightAt-weigh a b fs = sum-ext (λ f. cond-mul (eqb a (f .low) && eqb b (f .high)) (f .weight)) fs
+pub belief-collect : (d : ℕ) (fs : List Focal) → belief d (collect fs) ≡ belief d fs
+belief-collect d = where-collect (λ low high. leb d low)
+
+pub plausibility-collect : (d : ℕ) (fs : List Focal) → plausibility d (collect fs) ≡ plausibility d fs
+plausibility-collect d = where-collect (λ low high. leb d high)
 
 pub weightAt-collect : (a b : ℕ) (fs : List Focal) → weightAt a b (collect fs) ≡ weightAt a b fs
-weightAt-collect a b fs = weightAt-weigh a b (collect fs) ∙ (weigh-collect (is a b) fs ∙ sym (weightAt-weigh a b fs))
+weightAt-collect a b = where-collect (λ low high. eqb a low && eqb b high)
 
-pub belief-weigh : (d : ℕ) (fs : List Focal) → belief d fs ≡ weigh (λ a b. cond (leb d a) 1 0) fs
-belief-weigh d fs = sum-ext (λ f. cond-mul (leb d (f .low)) (f .weight)) fs
+pub weights-weigh : (fs : List Focal) → weights fs ≡ weigh (λ a b. 1) fs
+weights-weigh = where-weigh (λ low high. true)
 
-pub plausibility-weigh : (d : ℕ) (fs : List Focal) → plausibility d fs ≡ weigh (λ a b. cond (leb d b) 1 0) fs
-plausibility-weigh d fs = sum-ext (λ f. cond-mul (leb d (f .high)) (f .weight)) fs
+pub weights-collect : (fs : List Focal) → weights (collect fs) ≡ weights fs
+weights-collect = where-collect (λ low high. true)
+
+pub weights-insert : (f : Focal) (gs : List Focal) → weights (inserted f gs) ≡ f .weight + weights gs
+weights-insert f gs = rw (weights-weigh (inserted f gs), weights-weigh gs) (weigh-insert (λ a b. 1) f gs ∙ ap (_+ weigh (λ a b. 1) gs) (mul-one (f .weight)))
 
 -- A list in order, with no weight 0, is determined by its weights.
 at-self : (f : Focal) (fs : List Focal) → weightAt (f .low) (f .high) (f ∷ fs) ≡ f .weight + weightAt (f .low) (f .high) fs
@@ -101,14 +110,14 @@ canonical InOrder.none Every.none (InOrder.more {f = g} {fs = gs} b s) (Every.mo
 canonical (InOrder.more {f = f} {fs = fs} b s) (Every.more p q) InOrder.none Every.none h =
     absurd (omega (arith, h (f .low) (f .high), at-self f fs))
 canonical (InOrder.more {f = f} {fs = fs} b s) (Every.more p q) (InOrder.more {f = g} {fs = gs} c t) (Every.more u v) h =
-    go (order f g) (placed f g) (λ k. canonical s q t v k)
+    go (placed f g) (λ k. canonical s q t v k)
   where
-    go : (o : Ordering) → Placed f g o → (((x y : ℕ) → weightAt x y fs ≡ weightAt x y gs) → fs ≡ gs) → f ∷ fs ≡ g ∷ gs
-    go Ordering·lt (Placed.before k) r =
+    go : {o : Ordering} → Placed f g o → (((x y : ℕ) → weightAt x y fs ≡ weightAt x y gs) → fs ≡ gs) → f ∷ fs ≡ g ∷ gs
+    go (Placed.before k) r =
         absurd (omega (arith, h (f .low) (f .high), at-self f fs, at-none f (before-all f g k c)))
-    go Ordering·gt (Placed.after k) r =
+    go (Placed.after k) r =
         absurd (omega (arith, h (g .low) (g .high), at-self g gs, at-none g (before-all g f k b)))
-    go Ordering·eq (Placed.same k l) r =
+    go (Placed.same k l) r =
         let w : f .weight ≡ g .weight = omega (arith, h (f .low) (f .high), at-self f fs, at-none f b, ap₂ (λ x y. weightAt x y (g ∷ gs)) k l, at-self g gs, at-none g c) in
         let fg : f ≡ g = λ i. record { low = k i; high = l i; weight = w i } in
         ap₂ _∷_ fg (r (λ x y. omega (arith, h x y, ap (λ (j : Focal). cond (eqb x (j .low) && eqb y (j .high)) (j .weight) 0) fg)))
@@ -116,9 +125,6 @@ canonical (InOrder.more {f = f} {fs = fs} b s) (Every.more p q) (InOrder.more {f
 -- Two lists with the same weighted sums are collected to the same list.
 pub same-collect : {fs gs : List Focal} → Every Positive fs → Every Positive gs → ((k : ℕ → ℕ → ℕ) → weigh k fs ≡ weigh k gs) → collect fs ≡ collect gs
 same-collect {fs} {gs} p q h =
-    canonical (order-collect fs) (positive-collect p) (order-collect gs) (positive-collect q)
-    (λ a b. weightAt-collect a b fs ∙ (weightAt-weigh a b fs ∙ (h (is a b) ∙ (sym (weightAt-weigh a b gs) ∙ sym (weightAt-collect a b gs)))))
-
--- A list in order is its own collection.
-pub collect-fixed : {fs : List Focal} → InOrder fs → Every Positive fs → collect fs ≡ fs
-collect-fixed {fs} o p = canonical (order-collect fs) (positive-collect p) o p (λ a b. weightAt-collect a b fs)
+    canonical (order-collect fs) (positive-collect p) (order-collect gs) (positive-collect q) (λ a b.
+    let test : ℕ → ℕ → Bool = λ low high. eqb a low && eqb b high in
+    where-collect test fs ∙ (where-weigh test fs ∙ (h _ ∙ (sym (where-weigh test gs) ∙ sym (where-collect test gs)))))

@@ -1,67 +1,102 @@
--- What code that keeps a list in order by putting in one interval at a time needs. Assumes nothing.
-use Prim.Native.Nat.{ℕ, suc, _*_, _≤_, Ordering, Ordering·lt, Ordering·eq, Ordering·gt}
-use mathlib.Core.Path.{_≡_, refl, sym, ap, _∙_}
-use mathlib.Core.Logic.{inl, inr}
+-- Where a new interval goes, and lists that are built by one insertion after the other. Assumes nothing.
+use Prim.Native.Nat.{suc, _≤_, compare, Ordering, Ordering·lt, Ordering·eq, Ordering·gt}
+use mathlib.Core.Path.{_≡_, refl, sym, ap, ap₂, _∙_}
 use mathlib.Core.List.{List, [], _∷_, _++_}
-use native.Mathlib.Nat.{mul-one}
+use native.Mathlib.Nat.{add-assoc, add-comm}
 use native.Mathlib.Omega.{arith}
 use lib.ListN.{length}
 use Rattle.theory.specs.Sums.{Every}
-use Rattle.theory.specs.Focal.{Focal, weights, Positive}
-use Rattle.theory.specs.Choices.{belief, plausibility}
-use Rattle.theory.specs.Lists.{order, Before, merged, insertedAt, inserted, collect}
-use Rattle.theory.proofs.Sums.{sum-ext, sum-append}
-use Rattle.theory.proofs.Order.{Placed, placed, before-trans}
-use Rattle.theory.proofs.Collect.{weigh, weigh-collect, same-collect, belief-weigh, plausibility-weigh}
-use Rattle.theory.proofs.Every.{every-append}
+use Rattle.theory.specs.Focal.{Focal}
+use Rattle.theory.specs.Lists.{lexically, order, Before, InOrder, merged, insertedAt, inserted, collect, insertAll}
+use Rattle.theory.proofs.Order.{Placed, placed, before-trans, before-same, order-is}
 
-never : (f g : Focal) → f .low ≡ g .low → f .high ≡ g .high → Before f g → ⊥
-never f g p q (inl h) = omega arith
-never f g p q (inr h) = omega arith
-
-pub order-before : (f g : Focal) → Before f g → order f g ≡ Ordering·lt
-order-before f g b = go (order f g) (placed f g)
-  where
-    go : (o : Ordering) → Placed f g o → o ≡ Ordering·lt
-    go Ordering·lt p = refl
-    go Ordering·eq (Placed.same p q) = absurd (never f g p q b)
-    go Ordering·gt (Placed.after p) = absurd (never f f refl refl (before-trans f g f b p))
-
-order-after : (f g : Focal) → Before g f → order f g ≡ Ordering·gt
-order-after f g b = go (order f g) (placed f g)
-  where
-    go : (o : Ordering) → Placed f g o → o ≡ Ordering·gt
-    go Ordering·lt (Placed.before p) = absurd (never f f refl refl (before-trans f g f p b))
-    go Ordering·eq (Placed.same p q) = absurd (never g f (sym p) (sym q) b)
-    go Ordering·gt p = refl
-
-order-same : (f g : Focal) → f .low ≡ g .low → f .high ≡ g .high → order f g ≡ Ordering·eq
-order-same f g p q = go (order f g) (placed f g)
-  where
-    go : (o : Ordering) → Placed f g o → o ≡ Ordering·eq
-    go Ordering·lt (Placed.before b) = absurd (never f g p q b)
-    go Ordering·eq r = refl
-    go Ordering·gt (Placed.after b) = absurd (never g f (sym p) (sym q) b)
-
--- where a new interval goes
+-- A new interval goes behind those before it and in front of those after it; with an equal one it becomes one.
 pub insert-skip : (f : Focal) {fs : List Focal} → Every (λ g. Before g f) fs → (gs : List Focal) → inserted f (fs ++ gs) ≡ fs ++ inserted f gs
 insert-skip f Every.none gs = refl
-insert-skip f (Every.more {x = g} {xs = fs} p r) gs = rw (order-after f g p) (ap (g ∷_) (insert-skip f r gs))
+insert-skip f (Every.more {x = g} {xs = fs} p r) gs = rw (order-is f g (Placed.after p)) (ap (g ∷_) (insert-skip f r gs))
 
 pub insert-here : (f g : Focal) → Before f g → (gs : List Focal) → inserted f (g ∷ gs) ≡ f ∷ g ∷ gs
-insert-here f g b gs = rw (order-before f g b) refl
+insert-here f g b gs = rw (order-is f g (Placed.before b)) refl
 
 pub insert-same : (f g : Focal) → f .low ≡ g .low → f .high ≡ g .high → (gs : List Focal)
     → inserted f (g ∷ gs) ≡ merged f g ∷ gs
-insert-same f g p q gs = rw (order-same f g p q) refl
+insert-same f g p q gs = rw (order-is f g (Placed.same p q)) refl
 
--- one more interval at the end of what is collected
-pub collect-snoc : {fs : List Focal} → Every Positive fs → (f : Focal) → Positive f → collect (fs ++ (f ∷ [])) ≡ inserted f (collect fs)
-collect-snoc {fs} p f h =
-    same-collect (every-append p (Every.more h Every.none)) (Every.more h p)
-    (λ k. sum-append (λ g. g .weight * k (g .low) (g .high)) fs (f ∷ []) ∙ omega arith)
+pub insert-after : (f g : Focal) → Before g f → (gs : List Focal) → inserted f (g ∷ gs) ≡ g ∷ inserted f gs
+insert-after f g b gs = rw (order-is f g (Placed.after b)) refl
 
--- a list grows by at most one, and never shrinks
+pub insert-front : (f : Focal) {gs : List Focal} → Every (Before f) gs → inserted f gs ≡ f ∷ gs
+insert-front f Every.none = refl
+insert-front f (Every.more {x = g} {xs = gs} b r) = insert-here f g b gs
+
+-- A list in order is its own collection.
+pub collect-fixed : {fs : List Focal} → InOrder fs → collect fs ≡ fs
+collect-fixed InOrder.none = refl
+collect-fixed (InOrder.more {f = f} b r) = rw (collect-fixed r) (insert-front f b)
+
+-- Insertion commutes, whatever the weights: of two intervals either one comes before the other, or they become one.
+earlier-first : (f g h : Focal) → Before f g → Before f h → (l : List Focal) → inserted f (inserted g (h ∷ l)) ≡ f ∷ inserted g (h ∷ l)
+earlier-first f g h b c l = go (order g h)
+  where
+    go : (o : Ordering) → inserted f (insertedAt o g h l (inserted g l)) ≡ f ∷ insertedAt o g h l (inserted g l)
+    go Ordering·lt = insert-here f g b (h ∷ l)
+    go Ordering·eq = insert-here f (merged g h) c l
+    go Ordering·gt = insert-here f h c (inserted g l)
+
+commute-before : (f g : Focal) → Before f g → (l : List Focal) → inserted f (inserted g l) ≡ inserted g (inserted f l)
+commute-before f g b [] = insert-here f g b [] ∙ sym (insert-after g f b [])
+commute-before f g b (h ∷ l) = go (placed f h) (commute-before f g b l)
+  where
+    go : {o : Ordering} → Placed f h o → inserted f (inserted g l) ≡ inserted g (inserted f l)
+        → inserted f (inserted g (h ∷ l)) ≡ inserted g (insertedAt o f h l (inserted f l))
+    go (Placed.before c) r = earlier-first f g h b c l ∙ sym (insert-after g f b (h ∷ l))
+    go (Placed.same p q) r =
+        let c : Before h g = before-same f g h p q b in
+        rw (insert-after g h c l, insert-same f h p q (inserted g l)) (sym (insert-after g (merged f h) c l))
+    go (Placed.after c) r =
+        let d : Before h g = before-trans h f g c b in
+        rw (insert-after g h d l, insert-after f h c (inserted g l), insert-after g h d (inserted f l)) (ap (h ∷_) r)
+
+insert-merged : (f g : Focal) → f .low ≡ g .low → f .high ≡ g .high → (l : List Focal) → inserted f (inserted g l) ≡ inserted (merged f g) l
+insert-merged f g p q [] = insert-same f g p q []
+insert-merged f g p q (h ∷ l) = go (placed g h) (insert-merged f g p q l)
+  where
+    go : {o : Ordering} → Placed g h o → inserted f (inserted g l) ≡ inserted (merged f g) l
+        → inserted f (insertedAt o g h l (inserted g l)) ≡ insertedAt o (merged f g) h l (inserted (merged f g) l)
+    go (Placed.before c) r = insert-same f g p q (h ∷ l)
+    go (Placed.same s t) r =
+        insert-same f (merged g h) (p ∙ s) (q ∙ t) l ∙ (λ i. record { low = h .low; high = h .high; weight = sym (add-assoc (f .weight) (g .weight) (h .weight)) i } ∷ l)
+    go (Placed.after c) r =
+        let e : order f h ≡ Ordering·gt = ap₂ (λ x y. lexically (compare x (h .low)) (compare y (h .high))) p q ∙ order-is g h (Placed.after c) in
+        rw e (ap (h ∷_) r)
+
+merged-comm : (f g : Focal) → f .low ≡ g .low → f .high ≡ g .high → merged f g ≡ merged g f
+merged-comm f g p q i = record { low = sym p i; high = sym q i; weight = add-comm (f .weight) (g .weight) i }
+
+pub insert-commute : (f g : Focal) (l : List Focal) → inserted f (inserted g l) ≡ inserted g (inserted f l)
+insert-commute f g l = go (placed f g)
+  where
+    go : {o : Ordering} → Placed f g o → inserted f (inserted g l) ≡ inserted g (inserted f l)
+    go (Placed.before b) = commute-before f g b l
+    go (Placed.same p q) =
+        insert-merged f g p q l ∙ (ap (λ (h : Focal). inserted h l) (merged-comm f g p q) ∙ sym (insert-merged g f (sym p) (sym q) l))
+    go (Placed.after b) = sym (commute-before g f b l)
+
+-- One more interval at the end may be inserted last.
+pub collect-snoc : (fs : List Focal) (f : Focal) → collect (fs ++ (f ∷ [])) ≡ inserted f (collect fs)
+collect-snoc [] f = refl
+collect-snoc (g ∷ fs) f = ap (inserted g) (collect-snoc fs f) ∙ insert-commute g f (collect fs)
+
+-- One insertion after the other collects.
+insertAll-insert : (f : Focal) (l fs : List Focal) → insertAll (inserted f l) fs ≡ inserted f (insertAll l fs)
+insertAll-insert f l [] = refl
+insertAll-insert f l (g ∷ fs) = ap (λ (k : List Focal). insertAll k fs) (insert-commute g f l) ∙ insertAll-insert f (inserted g l) fs
+
+pub insertAll-collect : (fs : List Focal) → insertAll [] fs ≡ collect fs
+insertAll-collect [] = refl
+insertAll-collect (f ∷ fs) = insertAll-insert f [] fs ∙ ap (inserted f) (insertAll-collect fs)
+
+-- A list grows by at most one, and never shrinks.
 pub length-insert : (f : Focal) (gs : List Focal) → (length gs ≤ length (inserted f gs)) × (length (inserted f gs) ≤ suc (length gs))
 length-insert f [] = omega arith
 length-insert f (g ∷ gs) = go (order f g) (length-insert f gs)
@@ -75,17 +110,3 @@ length-insert f (g ∷ gs) = go (order f g) (length-insert f gs)
 pub length-collect : (fs : List Focal) → length (collect fs) ≤ length fs
 length-collect [] = omega arith
 length-collect (f ∷ fs) = omega (arith, length-insert f (collect fs), length-collect fs)
-
--- the shares read from the drive's list
-pub belief-collect : (d : ℕ) (fs : List Focal) → belief d (collect fs) ≡ belief d fs
-belief-collect d fs = belief-weigh d (collect fs) ∙ (weigh-collect _ fs ∙ sym (belief-weigh d fs))
-
-pub plausibility-collect : (d : ℕ) (fs : List Focal) → plausibility d (collect fs) ≡ plausibility d fs
-plausibility-collect d fs = plausibility-weigh d (collect fs) ∙ (weigh-collect _ fs ∙ sym (plausibility-weigh d fs))
-
--- the weights of a list add up to the product of the totals under it
-pub weights-weigh : (fs : List Focal) → weights fs ≡ weigh (λ a b. 1) fs
-weights-weigh fs = sum-ext (λ f. sym (mul-one (f .weight))) fs
-
-pub weights-collect : (fs : List Focal) → weights (collect fs) ≡ weights fs
-weights-collect fs = weights-weigh (collect fs) ∙ (weigh-collect _ fs ∙ sym (weights-weigh fs))

@@ -3,20 +3,18 @@ use Prim.Native.Nat.{ℕ, _*_}
 use mathlib.Core.Path.{_≡_, refl, sym, ap, _∙_}
 use mathlib.Core.List.{List, [], _∷_, map}
 use native.Mathlib.Nat.{mul-assoc, mul-pos}
-use lib.ListN.{getD}
 use Rattle.theory.specs.Sums.{Every}
 use Rattle.theory.specs.Focal.{Focal, masses, Positive, AllPositive}
-use Rattle.theory.specs.Joins.{joined, joinedFocal, pairs}
+use Rattle.theory.specs.Joins.{joined, joinedBy, pairsBy, joinedFocal, pairs}
 use Rattle.theory.specs.declared.Entry.{Entry}
 use Rattle.theory.specs.declared.Entry.the-variants.{Component as component, Join as join}
-use Rattle.theory.specs.Structure.{step, run, Φ, Tree, leaf, node, trees}
+use Rattle.theory.specs.Structure.{step, run, Tree, leaf, node}
 use Rattle.theory.specs.Lists.{collect, noComponent, outcomesOf, listOf}
-use Rattle.theory.specs.Division.{speeds}
 use Rattle.theory.specs.declared.Component.{Component}
 use Rattle.theory.specs.declared.Join.{Join}
 use Rattle.theory.proofs.Sums.{sum-ext, sum-scale, sum-map, sum-forEach}
 use Rattle.theory.proofs.Collect.{weigh, weigh-collect, positive-collect, same-collect}
-use Rattle.theory.proofs.Every.{every-append, every-getD}
+use Rattle.theory.proofs.Every.{every-append, every-image, every-getD}
 
 -- A weighted sum over the pairs is one over the first list of one over the second.
 pub weigh-pairs : (k : ℕ → ℕ → ℕ) (op : Join) (fs gs : List Focal)
@@ -27,13 +25,14 @@ weigh-pairs k op fs gs =
     ∙ (sum-ext (λ g. mul-assoc (f .weight) (g .weight) (k (joined op (f .low) (g .low)) (joined op (f .high) (g .high)))) gs
     ∙ sum-scale (f .weight) (λ g. g .weight * k (joined op (f .low) (g .low)) (joined op (f .high) (g .high))) gs)) fs
 
-meets-positive : (op : Join) (f : Focal) → Positive f → {gs : List Focal} → Every Positive gs → Every Positive (map (joinedFocal op f) gs)
-meets-positive op f p Every.none = Every.none
-meets-positive op f p (Every.more q r) = Every.more (mul-pos p q) (meets-positive op f p r)
+-- What holds of the join of any two intervals holds of every pair.
+pub every-pairs : (times : ℕ → ℕ → ℕ) (op : Join) {P Q R : Focal → Type 0} → ((f g : Focal) → P f → Q g → R (joinedBy times op f g))
+    → {fs gs : List Focal} → Every P fs → Every Q gs → Every R (pairsBy times op fs gs)
+every-pairs times op h Every.none q = Every.none
+every-pairs times op h (Every.more {x = f} p r) q = every-append (every-image (joinedBy times op f) (λ g. h f g p) q) (every-pairs times op h r q)
 
 pub positive-pairs : (op : Join) {fs gs : List Focal} → Every Positive fs → Every Positive gs → Every Positive (pairs op fs gs)
-positive-pairs op Every.none q = Every.none
-positive-pairs op (Every.more {x = f} p r) q = every-append (meets-positive op f p q) (positive-pairs op r q)
+positive-pairs op = every-pairs _*_ op (λ f g. mul-pos)
 
 -- The lists may be collected before they are joined.
 pub collect-pairs : (op : Join) {fs gs : List Focal} → Every Positive fs → Every Positive gs
@@ -65,14 +64,3 @@ module _ {A B : Type 0} (h : A → B) (la : ℕ → A) (ba : Join → A → A �
   pub run-map : (es : List Entry) (stack : List A) → map h (run la ba es stack) ≡ run lb bb es (map h stack)
   run-map [] stack = refl
   run-map (e ∷ es) stack = run-map es (step la ba e stack) ∙ ap (run lb bb es) (step-map e stack)
-
--- the speed of a sub-structure
-abbrev pub speedOf : List ℕ → Tree → ℕ
-speedOf speeds (leaf i) = getD speeds i 0
-speedOf speeds (node op l r) = joined op (speedOf speeds l) (speedOf speeds r)
-
--- The structure function is the speed of the one tree that is left.
-pub Φ-tree : (es : List Entry) (t : Tree) → trees es ≡ t ∷ [] → (v : List ℕ) → Φ es v ≡ speedOf v t
-Φ-tree es t e v =
-    ap (λ (p : List ℕ). getD p 0 0) (sym (run-map (speedOf v) leaf node (λ i. getD v i 0) joined (λ i. refl) (λ op x y. refl) es []))
-    ∙ ap (λ (p : List Tree). getD (map (speedOf v) p) 0 0) e

@@ -2,6 +2,7 @@
 use Prim.Native.Nat.{ℕ, zero, suc, _+_, _*_, _≤_, _<_}
 use mathlib.Core.Path.{_≡_, refl, sym, ap, ap₂, _∙_}
 use mathlib.Core.Bool.{Bool, true, false, cond}
+use mathlib.Core.Logic.{_⊎_, inl, inr}
 use mathlib.Core.List.{List, [], _∷_, _++_, map}
 use native.Mathlib.Nat.{mul-one, add-zero, add-assoc, zero-add, mul-zero, mul-add, add-le-add, le-refl}
 use native.Mathlib.Omega.{arith}
@@ -44,7 +45,7 @@ module _ {A B : Type 0} where
   sum-forEach f g [] = refl
   sum-forEach f g (x ∷ xs) = sum-append f (g x) (forEach xs g) ∙ ap (sumBy f (g x) +_) (sum-forEach f g xs)
 
-  -- two sums change places
+  -- Two sums may change places.
   pub sum-swap : (f : A → B → ℕ) (xs : List A) (ys : List B) → sumBy (λ x. sumBy (f x) ys) xs ≡ sumBy (λ y. sumBy (λ x. f x y) xs) ys
   sum-swap f [] ys = sym (sum-zero ys)
   sum-swap f (x ∷ xs) ys = ap (sumBy (f x) ys +_) (sum-swap f xs ys) ∙ sym (sum-add (f x) (λ y. sumBy (λ z. f z y) xs) ys)
@@ -54,26 +55,26 @@ module _ {A : Type 0} where
   sum-oneOfEach f l ls =
       sum-forEach f (λ x. map (x ∷_) (oneOfEach ls)) l ∙ sum-ext (λ x. sum-map f (x ∷_) (oneOfEach ls)) l
 
--- a sum with one term
-pub sum-out : (a : ℕ) (g : ℕ → ℕ) (k n : ℕ) → a < k → sumBy (λ v. cond (eqb v a) (g v) 0) (countFrom k n) ≡ 0
+-- A sum with at most one term is 0, or that term.
+pub sum-out : (a : ℕ) (g : ℕ → ℕ) (k n : ℕ) → (a < k) ⊎ (k + n ≤ a) → sumBy (λ v. cond (eqb a v) (g v) 0) (countFrom k n) ≡ 0
 sum-out a g k zero h = refl
-sum-out a g k (suc n) h =
-    rw (ne-eqb k a (omega arith)) (omega (arith, sum-out a g (suc k) n (omega arith)))
+sum-out a g k (suc n) (inl h) = rw (ne-eqb a k (omega arith)) (omega (arith, sum-out a g (suc k) n (inl (omega arith))))
+sum-out a g k (suc n) (inr h) = rw (ne-eqb a k (omega arith)) (omega (arith, sum-out a g (suc k) n (inr (omega arith))))
 
-pub sum-point : (a : ℕ) (g : ℕ → ℕ) (k n : ℕ) → k ≤ a → a < k + n → sumBy (λ v. cond (eqb v a) (g v) 0) (countFrom k n) ≡ g a
+pub sum-point : (a : ℕ) (g : ℕ → ℕ) (k n : ℕ) → k ≤ a → a < k + n → sumBy (λ v. cond (eqb a v) (g v) 0) (countFrom k n) ≡ g a
 sum-point a g k zero h l = absurd (omega arith)
-sum-point a g k (suc n) h l = go (eqb k a) refl (λ i. sum-point a g (suc k) n i (omega arith))
+sum-point a g k (suc n) h l = go (eqb a k) refl (λ i. sum-point a g (suc k) n i (omega arith))
   where
-    go : (b : Bool) → eqb k a ≡ b → (suc k ≤ a → sumBy (λ v. cond (eqb v a) (g v) 0) (countFrom (suc k) n) ≡ g a)
-        → cond (eqb k a) (g k) 0 + sumBy (λ v. cond (eqb v a) (g v) 0) (countFrom (suc k) n) ≡ g a
+    go : (b : Bool) → eqb a k ≡ b → (suc k ≤ a → sumBy (λ v. cond (eqb a v) (g v) 0) (countFrom (suc k) n) ≡ g a)
+        → cond b (g k) 0 + sumBy (λ v. cond (eqb a v) (g v) 0) (countFrom (suc k) n) ≡ g a
     go true e r =
-        let q : k ≡ a = eqb-true k a e in
-        rw e (rw (sum-out a g (suc k) n (omega arith)) (add-zero (g k) ∙ ap g q))
+        let q : a ≡ k = eqb-true a k e in
+        rw (sum-out a g (suc k) n (inl (omega arith))) (add-zero (g k) ∙ ap g (sym q))
     go false e r =
-        let q : k ≡ a → ⊥ = eqb-false k a e in
-        rw e (zero-add _ ∙ r (omega arith))
+        let q : a ≡ k → ⊥ = eqb-false a k e in
+        zero-add _ ∙ r (omega arith)
 
--- a test as a factor
+-- A test is a factor 1 or 0.
 pub cond-mul : (b : Bool) (w : ℕ) → cond b w 0 ≡ w * cond b 1 0
 cond-mul true w = sym (mul-one w)
 cond-mul false w = sym (mul-zero w)

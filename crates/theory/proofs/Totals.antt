@@ -1,42 +1,46 @@
--- The weights of a list add up to the product of the totals under it, and speeds stay below a bound: so all numbers fit. Assumes nothing.
+-- The weights of a list add up to the product of the totals under it, and speeds stay below a bound that joins keep: so all numbers fit. Assumes nothing.
 use Prim.Native.Nat.{ℕ, _+_, _*_, _^_, _≤_, _<_}
-use mathlib.Core.Path.{_≡_, refl, sym, ap, ap₂, _∙_}
+use mathlib.Core.Path.{_≡_, refl, sym, ap, ap₂, subst, _∙_}
 use mathlib.Core.List.{List, [], _∷_, _++_, map}
-use native.Mathlib.Nat.{mul-one, mul-assoc, mul-comm, mul-le-mul, le-trans, le-of-eq, pow-zero, pow-suc, pow-le-pow-right, one-mul}
+use mathlib.Core.Bool.{true}
+use native.Mathlib.Nat.{mul-one, one-mul, mul-assoc, mul-comm, mul-le-mul, le-trans, le-of-eq, pow-zero, pow-suc, pow-le-pow-right}
 use native.Mathlib.Omega.{arith}
 use lib.Pow.{pow-add}
-use lib.ListN.{getD, length, length-append}
+use lib.ListN.{length, getD, length-append}
 use Rattle.theory.specs.Sums.{sumBy, productBy, Every}
-use Rattle.theory.specs.Focal.{Focal, masses, weights, total, AllInRange, Balanced}
-use Rattle.theory.specs.Limits.{topSpeed}
-use Rattle.theory.specs.Joins.{joined, joinedFocal, pairs}
+use Rattle.theory.specs.Focal.{Focal, masses, weights, total, Balanced, UpTo, InRange, AllInRange, AllPositive}
+use Rattle.theory.specs.Limits.{mostTotal, mostComponents, topSpeed}
+use Rattle.theory.specs.Joins.{pairs, joinedFocal}
 use Rattle.theory.specs.declared.Entry.{Entry}
-use Rattle.theory.specs.Structure.{Tree, leaf, node, leaves}
 use Rattle.theory.specs.Choices.{choices, outcome, outcomes}
-use Rattle.theory.specs.Lists.{merged, collect, driveList, noComponent, outcomesOf, listOf}
+use Rattle.theory.specs.Lists.{driveList, collect, joinLists, noComponent, outcomesOf, listOf, Fits}
 use Rattle.theory.specs.declared.Component.{Component}
 use Rattle.theory.specs.declared.Join.{Join}
-use Rattle.theory.specs.declared.Join.the-variants.{Series, Shared, Spare}
+use Rattle.theory.specs.Structure.{NamedOnce, joinsFindTwo, Tree, leaf, node, leaves}
 use Rattle.theory.proofs.Sums.{sum-ext, sum-map, sum-scale, sum-oneOfEach}
-use Rattle.theory.proofs.Monotone.{joined-mono}
-use Rattle.theory.proofs.Collect.{every-insert}
-use Rattle.theory.proofs.Steps.{weigh-pairs}
-use Rattle.theory.proofs.Lists.{weights-collect, weights-weigh}
-use Rattle.theory.proofs.Every.{every-map, every-append, every-all, every-getD}
+use Rattle.theory.proofs.Steps.{weigh-pairs, every-pairs}
+use Rattle.theory.proofs.Collect.{weights-collect, weights-weigh, every-collect}
+use Rattle.theory.proofs.Counts.{once-length}
+use Rattle.theory.proofs.Monotone.{joined-mono, joined-le}
+use Rattle.theory.proofs.Every.{every-map, every-getD}
+use Rattle.theory.proofs.Structure.{one-tree}
+use Rattle.theory.proofs.Bridge.{drive-is-tree}
 
-weights-pairs : (op : Join) (fs gs : List Focal) → weights (pairs op fs gs) ≡ weights fs * weights gs
+-- The weights of the pairs add up to the product of the two sums.
+pub weights-pairs : (op : Join) (fs gs : List Focal) → weights (pairs op fs gs) ≡ weights fs * weights gs
 weights-pairs op fs gs =
     weights-weigh (pairs op fs gs)
     ∙ (weigh-pairs (λ a b. 1) op fs gs
     ∙ (sum-ext (λ f. ap (f .weight *_) (sym (weights-weigh gs)) ∙ mul-comm (f .weight) (weights gs)) fs
     ∙ (sum-scale (weights gs) (λ f. f .weight) fs ∙ mul-comm (weights gs) (weights fs))))
 
+-- The weights of a sub-structure's list, and of the drive's, add up to the product of the totals under it.
+abbrev pub totalOf : List Component → Tree → ℕ
+totalOf cs t = productBy (λ i. (getD cs i noComponent) .total) (leaves t)
+
 product-append : {A : Type 0} (f : A → ℕ) (xs ys : List A) → productBy f (xs ++ ys) ≡ productBy f xs * productBy f ys
 product-append f [] ys = sym (one-mul (productBy f ys))
 product-append f (x ∷ xs) ys = ap (f x *_) (product-append f xs ys) ∙ sym (mul-assoc (f x) (productBy f xs) (productBy f ys))
-
-abbrev pub totalOf : List Component → Tree → ℕ
-totalOf cs t = productBy (λ i. (getD cs i noComponent) .total) (leaves t)
 
 weights-outcomesOf : {cs : List Component} → Balanced cs → (t : Tree) → weights (outcomesOf cs t) ≡ totalOf cs t
 weights-outcomesOf p (leaf i) = every-getD (λ c. weights (masses c) ≡ c .total) noComponent refl p i ∙ sym (mul-one _)
@@ -57,77 +61,78 @@ weights-choices (Every.more {x = c} {xs = cs} p r) =
 pub weights-driveList : {cs : List Component} → Balanced cs → (es : List Entry) → weights (driveList es cs) ≡ total cs
 weights-driveList {cs} p es = weights-collect (outcomes es cs) ∙ (sum-map (λ f. f .weight) (outcome es) (choices cs) ∙ weights-choices p)
 
--- one weight is at most the sum
-pub weight-le : (fs : List Focal) → Every (λ f. f .weight ≤ weights fs) fs
-weight-le [] = Every.none
-weight-le (f ∷ fs) = Every.more {x = f} (omega arith) (every-map (λ g h. omega arith) (weight-le fs))
-
--- a product of numbers up to k
+-- A product of numbers up to k is at most a power of k.
 pub product-le : {A : Type 0} (f : A → ℕ) (k : ℕ) → {xs : List A} → Every (λ x. f x ≤ k) xs → productBy f xs ≤ k ^ length xs
 product-le f k Every.none = le-of-eq (sym (pow-zero k))
 product-le f k (Every.more {xs = xs} p r) =
     le-trans (mul-le-mul p (product-le f k r)) (le-of-eq (mul-comm k (k ^ length xs) ∙ sym (pow-suc k (length xs))))
 
--- so the totals under a sub-structure fit 64 bits
-pub totalOf-le : {cs : List Component} → Every (λ c. c .total ≤ 1000) cs → (t : Tree) → totalOf cs t ≤ 1000 ^ length (leaves t)
-totalOf-le {cs} p t = product-le (λ i. (getD cs i noComponent) .total) 1000 (every-all (every-getD (λ c. c .total ≤ 1000) noComponent (omega arith) p) (leaves t))
+-- U is at most 10 to the 18th for six components.
+pub total-le : {cs : List Component} → Every (λ c. c .total ≤ mostTotal) cs → total cs ≤ mostTotal ^ length cs
+total-le = product-le (λ c. c .total) mostTotal
 
--- an interval of a list under n leaves: upright, and no higher than n times the top speed
-pub record Tall (n : ℕ) (f : Focal) : Type 0 where
-  pub upright : f .low ≤ f .high
-  pub below : f .high ≤ topSpeed * n
-
-joined-le : (op : Join) (a b : ℕ) → joined op a b ≤ a + b
-joined-le Series a b = omega arith
-joined-le Shared a b = omega arith
-joined-le Spare a b = omega arith
-
-joined-tall : (m n : ℕ) (op : Join) (f g : Focal) → Tall m f → Tall n g → Tall (m + n) (joinedFocal op f g)
-joined-tall m n op f g p q =
-    record {
-      upright = joined-mono op (p .upright) (q .upright);
-      below = omega (arith, joined-le op (f .high) (g .high), p .below, q .below);
-    }
-
-joins-tall : (m n : ℕ) (op : Join) (f : Focal) → Tall m f → {gs : List Focal} → Every (Tall n) gs → Every (Tall (m + n)) (map (joinedFocal op f) gs)
-joins-tall m n op f p Every.none = Every.none
-joins-tall m n op f p (Every.more {x = g} q r) = Every.more (joined-tall m n op f g p q) (joins-tall m n op f p r)
-
-pub pairs-tall : (m n : ℕ) (op : Join) {fs gs : List Focal} → Every (Tall m) fs → Every (Tall n) gs → Every (Tall (m + n)) (pairs op fs gs)
-pairs-tall m n op Every.none q = Every.none
-pairs-tall m n op (Every.more {x = f} p r) q = every-append (joins-tall m n op f p q) (pairs-tall m n op r q)
-
-tall-outcomesOf : {cs : List Component} → Every (λ c. Every (Tall 1) (masses c)) cs → (t : Tree) → Every (Tall (length (leaves t))) (outcomesOf cs t)
-tall-outcomesOf p (leaf i) = every-getD (λ c. Every (Tall 1) (masses c)) noComponent Every.none p i
-tall-outcomesOf p (node op l r) =
-    rw (length-append (leaves l) (leaves r)) (pairs-tall (length (leaves l)) (length (leaves r)) op (tall-outcomesOf p l) (tall-outcomesOf p r))
-
--- what speaks only of the interval stays true of each
-every-collect : (P : Focal → Type 0) → ((f g : Focal) → P f → P g → P (merged f g))
-    → {fs : List Focal} → Every P fs → Every P (collect fs)
-every-collect P m Every.none = Every.none
-every-collect P m (Every.more {x = f} p r) = every-insert P m f p (every-collect P m r)
-
-pub tall-listOf : {cs : List Component} → Every (λ c. Every (Tall 1) (masses c)) cs → (t : Tree) → Every (Tall (length (leaves t))) (listOf cs t)
-tall-listOf p t = every-collect (Tall (length (leaves t))) (λ f g h k. record { upright = k .upright; below = k .below }) (tall-outcomesOf p t)
-
--- What is formed fits its place, of components in range whose totals are at most 1,000, under up to six leaves: a weight 64 bits, a speed
--- 15, so that the speeds of a join fit 16.
-in-range-tall : {cs : List Component} → AllInRange cs → Every (λ c. Every (Tall 1) (masses c)) cs
-in-range-tall = every-map (λ c. every-map (λ f r. record { upright = r .upright; below = omega (arith, r .below) }))
-
-pub speeds-fit : {cs : List Component} → AllInRange cs → (t : Tree) → length (leaves t) ≤ 6 → Every (λ f. (f .low < 32768) × (f .high < 32768)) (listOf cs t)
-speeds-fit p t h = every-map (λ f r. (omega (arith, r .upright, r .below), omega (arith, r .below))) (tall-listOf (in-range-tall p) t)
-
-pub thousands : (a b m n : ℕ) → a ≤ 1000 ^ m → b ≤ 1000 ^ n → m + n ≤ 6 → a * b < 2 ^ 64
+pub thousands : (a b m n : ℕ) → a ≤ mostTotal ^ m → b ≤ mostTotal ^ n → m + n ≤ mostComponents → a * b < 2 ^ 64
 thousands a b m n p q h =
-    let l : a * b ≤ 1000 ^ 6 = le-trans (mul-le-mul p q) (le-trans (le-of-eq (sym (pow-add 1000 m n))) (pow-le-pow-right (omega arith) h)) in
+    let l : a * b ≤ mostTotal ^ mostComponents = le-trans (mul-le-mul p q) (le-trans (le-of-eq (sym (pow-add mostTotal m n))) (pow-le-pow-right (omega arith) h)) in
     omega arith
 
-module _ {cs : List Component} (p : Every (λ c. c .total ≤ 1000) cs) (q : Balanced cs) where
-  pub product-fits : (l r : Tree) → length (leaves l) + length (leaves r) ≤ 6 → weights (listOf cs l) * weights (listOf cs r) < 2 ^ 64
-  product-fits l r h = rw (weights-listOf q l, weights-listOf q r) (thousands (totalOf cs l) (totalOf cs r) (length (leaves l)) (length (leaves r)) (totalOf-le p l) (totalOf-le p r) h)
+-- ---- What is formed fits its place.
 
-  pub weight-fits : (t : Tree) → length (leaves t) ≤ 6 → weights (listOf cs t) < 2 ^ 64
-  weight-fits t h =
-      rw (weights-listOf q t) (omega (arith, thousands (totalOf cs t) 1 (length (leaves t)) 0 (totalOf-le p t) (le-of-eq (sym (pow-zero 1000))) (omega arith)))
+joined-upTo : (m n : ℕ) (op : Join) (f g : Focal) → UpTo (topSpeed * m) f → UpTo (topSpeed * n) g → UpTo (topSpeed * (m + n)) (joinedFocal op f g)
+joined-upTo m n op f g p q = record {
+  low-high = joined-mono op (p .low-high) (q .low-high);
+  below = omega (arith, joined-le op (f .high) (g .high), p .below, q .below);
+}
+
+fits-collect : {m : ℕ} {l : List Focal} → Fits m l → Fits m (collect l)
+fits-collect {m} {l} p = record {
+  speeds = every-collect (UpTo (topSpeed * m)) (λ f g h k. record { low-high = k .low-high; below = k .below }) (p .speeds);
+  sum = rw (weights-collect l) (p .sum);
+}
+
+module _ {m n : ℕ} (op : Join) {l r : List Focal} (p : Fits m l) (q : Fits n r) where
+  fits-pairs : Fits (m + n) (pairs op l r)
+  fits-pairs = record {
+    speeds = every-pairs _*_ op (joined-upTo m n op) (p .speeds) (q .speeds);
+    sum = rw (weights-pairs op l r, pow-add mostTotal m n) (mul-le-mul (p .sum) (q .sum));
+  }
+
+  pub fits-join : Fits (m + n) (joinLists op l r)
+  fits-join = fits-collect fits-pairs
+
+-- The weights of a join's list fit 64 bits.
+pub fits-product : {m n : ℕ} {l r : List Focal} → Fits m l → Fits n r → m + n ≤ mostComponents → weights l * weights r < 2 ^ 64
+fits-product {m} {n} {l} {r} p q = thousands (weights l) (weights r) m n (p .sum) (q .sum)
+
+module _ {m : ℕ} {l : List Focal} (p : Fits m l) (h : m ≤ mostComponents) where
+  -- Speeds fit 15 bits, so that the speeds of a join fit 16.
+  pub fits-speeds : Every (λ f. (f .low < 32768) × (f .high < 32768)) l
+  fits-speeds = every-map (λ f r. (omega (arith, r .low-high, r .below), omega (arith, r .below))) (p .speeds)
+
+  pub fits-weights : weights l < 2 ^ 64
+  fits-weights = omega (arith, thousands (weights l) 1 m 0 (p .sum) (le-of-eq (sym (pow-zero mostTotal))) (omega arith))
+
+module _ (c : Component) (range : Every InRange (masses c)) (small : weights (masses c) ≤ mostTotal) where
+  fits-masses : Fits 1 (masses c)
+  fits-masses = record { speeds = range; sum = omega arith }
+
+  pub fits-leaf : Fits 1 (collect (masses c))
+  fits-leaf = fits-collect fits-masses
+
+-- These are components of an accepted sheet.
+module _ {cs : List Component} (range : AllInRange cs) (balanced : Balanced cs) (totals : Every (λ c. c .total ≤ mostTotal) cs) where
+  fits-at : (c : Component) → Every InRange (masses c) → weights (masses c) ≡ c .total → c .total ≤ mostTotal → Fits 1 (masses c)
+  fits-at c r e h = fits-masses c r (omega arith)
+
+  fits-tree : (t : Tree) → Fits (length (leaves t)) (outcomesOf cs t)
+  fits-tree (leaf i) =
+      fits-at (getD cs i noComponent) (every-getD (λ c. Every InRange (masses c)) noComponent Every.none range i)
+      (every-getD (λ c. weights (masses c) ≡ c .total) noComponent refl balanced i) (every-getD (λ c. c .total ≤ mostTotal) noComponent (omega arith) totals i)
+  fits-tree (node op l r) = rw (length-append (leaves l) (leaves r)) (fits-pairs op (fits-tree l) (fits-tree r))
+
+  -- The drive's list fits where the structure names each component once.
+  pub fits-drive : AllPositive cs → (es : List Entry) → length es + 1 ≡ 2 * length cs → NamedOnce (length cs) es → joinsFindTwo es 0 ≡ true
+      → Fits (length cs) (driveList es cs)
+  fits-drive positive es l names two =
+      let (t, one, each) = one-tree (length cs) es l names two in
+      rw (drive-is-tree positive es t one each) (subst (λ n. Fits n (listOf cs t)) (once-length (length cs) (leaves t) each) (fits-collect (fits-tree t)))

@@ -1,17 +1,17 @@
 -- The definition that decides: the sum over all choices of one interval per component, evaluated through the whole structure
 -- (source 002, definition 2.3 under independence, and formula (7)). Assumes nothing.
 use Prim.Native.Nat.{ℕ, _≤_}
-use mathlib.Core.Bool.{cond}
+use mathlib.Core.Bool.{Bool, cond, _&&_}
 use mathlib.Core.Path.{_≡_}
-use mathlib.Core.List.{List, [], _∷_, map}
-use lib.Dec.{leb}
+use mathlib.Core.List.{List, map, Forall₂}
+use lib.Dec.{leb, eqb}
 use Rattle.theory.specs.Sums.{sumBy, productBy, oneOfEach}
-use Rattle.theory.specs.Focal.{Focal, masses}
+use Rattle.theory.specs.Focal.{Focal, focal, Inside, masses}
 use Rattle.theory.specs.declared.Entry.{Entry}
 use Rattle.theory.specs.Structure.{Φ}
 use Rattle.theory.specs.declared.Component.{Component}
 
--- every choice of one interval for each component
+-- Every choice takes one interval for each component.
 abbrev pub choices : List Component → List (List Focal)
 choices cs = oneOfEach (map masses cs)
 
@@ -23,22 +23,29 @@ highs = map (λ f. f .high)
 
 -- What a choice comes to: Φ of the lows, Φ of the highs, the product of the weights.
 abbrev pub outcome : List Entry → List Focal → Focal
-outcome es ch = record { low = Φ es (lows ch); high = Φ es (highs ch); weight = productBy (λ f. f .weight) ch }
+outcome es ch = focal (Φ es (lows ch)) (Φ es (highs ch)) (productBy (λ f. f .weight) ch)
 
 abbrev pub outcomes : List Entry → List Component → List Focal
 outcomes es cs = map (outcome es) (choices cs)
 
+-- The weights of the intervals whose low and high pass a test, added up.
+abbrev pub weightWhere : (ℕ → ℕ → Bool) → List Focal → ℕ
+weightWhere test = sumBy (λ f. cond (test (f .low) (f .high)) (f .weight) 0)
+
 -- Formula (7): the weights whose low is at least the demand d, and those whose high is.
 abbrev pub belief : ℕ → List Focal → ℕ
-belief d = sumBy (λ f. cond (leb d (f .low)) (f .weight) 0)
+belief d = weightWhere (λ low high. leb d low)
 
 abbrev pub plausibility : ℕ → List Focal → ℕ
-plausibility d = sumBy (λ f. cond (leb d (f .high)) (f .weight) 0)
+plausibility d = weightWhere (λ low high. leb d high)
 
--- one speed inside each interval of a choice
-pub data Within : List Focal → List ℕ → Type 0 where
-  none : Within [] []
-  more : {f : Focal} {s : ℕ} {ch : List Focal} {v : List ℕ} → f .low ≤ s → s ≤ f .high → Within ch v → Within (f ∷ ch) (s ∷ v)
+-- The weight at the interval from a to b.
+abbrev pub weightAt : ℕ → ℕ → List Focal → ℕ
+weightAt a b = weightWhere (λ low high. eqb a low && eqb b high)
+
+-- A row of speeds has one inside each interval of a choice.
+abbrev pub Within : List Focal → List ℕ → Type 0
+Within = Forall₂ Inside
 
 -- The outcome of a choice spans its speeds: no speed lies outside, and both ends are speeds of the choice.
 pub record Spans (es : List Entry) (ch : List Focal) : Type 0 where

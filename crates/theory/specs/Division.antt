@@ -1,17 +1,17 @@
 -- "Words": dividing weights, draws, and the share of time at or above a demand that belongs to one division. Assumes nothing.
-use Prim.Native.Nat.{ℕ, suc, _*_, _<_, _≤_}
+use Prim.Native.Nat.{ℕ, suc, _*_, _<_}
 use mathlib.Core.Bool.{cond}
 use mathlib.Core.Path.{_≡_}
-use mathlib.Core.List.{List, [], _∷_, map}
+use mathlib.Core.List.{List, [], _∷_, map, Forall₂}
 use lib.Dec.{leb}
 use Rattle.theory.specs.Sums.{sumBy, productBy, oneOfEach, countFrom}
-use Rattle.theory.specs.Focal.{Focal, masses}
+use Rattle.theory.specs.Focal.{Focal, Inside, masses}
 use Rattle.theory.specs.Limits.{topSpeed}
 use Rattle.theory.specs.declared.Entry.{Entry}
 use Rattle.theory.specs.Structure.{Φ}
 use Rattle.theory.specs.declared.Component.{Component}
 
--- the speeds 0 to 4,095
+-- The speeds 0 to 4,095.
 unfoldable pub speeds : List ℕ
 speeds = countFrom 0 (suc topSpeed)
 
@@ -19,22 +19,17 @@ speeds = countFrom 0 (suc topSpeed)
 abbrev pub Parts : Type 0
 Parts = ℕ → ℕ
 
--- m times the weight of f is split into whole parts, each on a speed inside the interval of f
+-- m times the weight of f is split into whole parts that add up to it, each on one speed inside the interval of f.
 pub record SplitsOne (m : ℕ) (f : Focal) (p : Parts) : Type 0 where
-  pub inside : (s : ℕ) → 0 < p s → (f .low ≤ s) × (s ≤ f .high)
+  pub inside : (s : ℕ) → 0 < p s → Inside f s
   pub whole : sumBy p speeds ≡ m * f .weight
 
--- each weight of a list, in turn
-pub data Splits (m : ℕ) : List Focal → List Parts → Type 0 where
-  none : Splits m [] []
-  more : {f : Focal} {p : Parts} {fs : List Focal} {ps : List Parts}
-      → SplitsOne m f p → Splits m fs ps → Splits m (f ∷ fs) (p ∷ ps)
+-- Each weight of a list is split so, and each component's list of weights.
+abbrev pub Splits : ℕ → List Focal → List Parts → Type 0
+Splits m = Forall₂ (SplitsOne m)
 
--- each weight of each component, in turn
-pub data Divides (m : ℕ) : List Component → List (List Parts) → Type 0 where
-  none : Divides m [] []
-  more : {c : Component} {ps : List Parts} {cs : List Component} {pss : List (List Parts)}
-      → Splits m (masses c) ps → Divides m cs pss → Divides m (c ∷ cs) (ps ∷ pss)
+abbrev pub Divides : ℕ → List Component → List (List Parts) → Type 0
+Divides m = Forall₂ (λ c. Splits m (masses c))
 
 -- A division: one whole number above 0 that multiplies every weight and every T, and the parts.
 pub record Division (cs : List Component) : Type 0 where
@@ -47,7 +42,7 @@ pub record Division (cs : List Component) : Type 0 where
 abbrev pub draws : List (List Parts) → List (List ℕ)
 draws pss = oneOfEach (map (λ ps. speeds) pss)
 
--- all that a division puts on a speed of one component
+-- All that a division puts on a speed of one component.
 abbrev pub putOn : List Parts → ℕ → ℕ
 putOn ps s = sumBy (λ p. p s) ps
 

@@ -23,13 +23,13 @@ pub data Evaluation (A : Type 0) : Type 0 where
   completed : List A → ℕ → Evaluation A
   refused : ℕ → Evaluation A
 
--- a refusal where a test is true, and what comes behind it otherwise
+-- A test that is true refuses; otherwise what comes behind it counts.
 abbrev pub refuseIf : {A : Type 0} → Bool → ℕ → Evaluation A → Evaluation A
 refuseIf true number e = refused number
 refuseIf false number e = e
 
--- On a stack of any kind of thing that has a list of intervals. At each join, in structure order: 13, the pairs so far and those of
--- this join exceed the allowance; 14, this join's list has more than 256 different intervals.
+-- The walk over the entries, on a stack of things that each have a list of intervals. At each join, in structure order: 13, the pairs
+-- formed so far and those of this join exceed the allowance; 14, this join's list has more than 256 different intervals.
 module _ {A : Type 0} (allowance : ℕ) (list : A → List Focal) (leafOf : ℕ → A) (both : Join → A → A → A) where
   abbrev pub walk : List Entry → List A → ℕ → Evaluation A
   walk [] stack n = completed stack n

@@ -13,11 +13,22 @@ pub record Focal : Type 0 where
   pub high : ℕ
   pub weight : ℕ
 
--- the interval at place i of a component
-abbrev pub focalAt : Component → ℕ → Focal
-focalAt c i = record { low = getD (c .lows) i 0; high = getD (c .highs) i 0; weight = getD (c .weights) i 0 }
+-- The interval from `low` to `high` with its weight. Past the end of a list there is `noFocal`.
+abbrev pub focal : ℕ → ℕ → ℕ → Focal
+focal low high weight = record { low = low; high = high; weight = weight }
 
--- what a sheet lists of a component: its intervals in use
+abbrev pub noFocal : Focal
+noFocal = focal 0 0 0
+
+-- The speed s lies inside the interval.
+abbrev pub Inside : Focal → ℕ → Type 0
+Inside f s = (f .low ≤ s) × (s ≤ f .high)
+
+-- The interval at place i of a component.
+abbrev pub focalAt : Component → ℕ → Focal
+focalAt c i = focal (getD (c .lows) i 0) (getD (c .highs) i 0) (getD (c .weights) i 0)
+
+-- What a sheet lists of a component: its intervals in use.
 abbrev pub listed : Component → List Focal
 listed c = map (focalAt c) (countFrom 0 (c .count))
 
@@ -25,18 +36,22 @@ listed c = map (focalAt c) (countFrom 0 (c .count))
 abbrev pub masses : Component → List Focal
 masses c = listed c
 
--- the sum of the weights of a list
+-- The sum of the weights of a list.
 abbrev pub weights : List Focal → ℕ
 weights = sumBy (λ f. f .weight)
 
--- U: the product of all T
+-- U is the product of all T.
 abbrev pub total : List Component → ℕ
 total = productBy (λ c. c .total)
 
+-- The low is at most the high, and neither is above `top`.
+pub record UpTo (top : ℕ) (f : Focal) : Type 0 where
+  pub low-high : f .low ≤ f .high
+  pub below : f .high ≤ top
+
 -- What numbers 7 and 8 leave of an accepted sheet's components: low at most high, speeds in range, no weight 0, weights that add to T.
-pub record InRange (f : Focal) : Type 0 where
-  pub upright : f .low ≤ f .high
-  pub below : f .high ≤ topSpeed
+abbrev pub InRange : Focal → Type 0
+InRange = UpTo topSpeed
 
 abbrev pub Positive : Focal → Type 0
 Positive f = 0 < f .weight

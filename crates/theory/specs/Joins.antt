@@ -2,11 +2,11 @@
 use Prim.Native.Nat.{ℕ, _+_, _*_, min, max}
 use mathlib.Core.List.{List, map}
 use Rattle.theory.specs.Sums.{forEach}
-use Rattle.theory.specs.Focal.{Focal}
+use Rattle.theory.specs.Focal.{Focal, focal}
 use Rattle.theory.specs.declared.Join.{Join}
 use Rattle.theory.specs.declared.Join.the-variants.{Series, Shared, Spare}
 
--- series: the smaller speed; shared: the sum; spare: the larger speed
+-- Series: the smaller speed. Shared: the sum. Spare: the larger speed.
 abbrev pub joined : Join → ℕ → ℕ → ℕ
 joined Series x y = min x y
 joined Shared x y = x + y
@@ -15,14 +15,13 @@ joined Spare x y = max x y
 -- Two intervals joined: lows and highs separately, weights multiplied. How two weights are multiplied is a parameter.
 module _ (times : ℕ → ℕ → ℕ) where
   abbrev pub joinedBy : Join → Focal → Focal → Focal
-  joinedBy op f g =
-      record { low = joined op (f .low) (g .low); high = joined op (f .high) (g .high); weight = times (f .weight) (g .weight) }
+  joinedBy op f g = focal (joined op (f .low) (g .low)) (joined op (f .high) (g .high)) (times (f .weight) (g .weight))
 
-  -- every interval of one list with every interval of the other
+  -- Every interval of one list meets every interval of the other.
   abbrev pub pairsBy : Join → List Focal → List Focal → List Focal
   pairsBy op fs gs = forEach fs (λ f. map (joinedBy op f) gs)
 
--- as the definition has it: the product
+-- Document 01 multiplies weights exactly.
 abbrev pub joinedFocal : Join → Focal → Focal → Focal
 joinedFocal = joinedBy _*_
 

@@ -1,39 +1,39 @@
 -- The limits of document 01, each number once; the constants of src/lib.rt are the same. Assumes nothing.
 use Prim.Native.Nat.{ℕ, _-_, _*_}
 
--- the highest speed of a component, in millimetres a second; the lowest is 0
+-- The highest speed of a component, in millimetres a second; the lowest is 0.
 abbrev pub topSpeed : ℕ
 topSpeed = 4095
 
--- the most intervals that a component holds (k), and its highest total T
+-- The most intervals that a component holds (k), and its highest total T.
 abbrev pub mostHeld : ℕ
 mostHeld = 8
 
 abbrev pub mostTotal : ℕ
 mostTotal = 1000
 
--- the most components of a drive (n)
+-- The most components of a drive (n).
 abbrev pub mostComponents : ℕ
 mostComponents = 6
 
--- a structure of n components has 2n − 1 entries
+-- A structure of n components has 2n − 1 entries.
 abbrev pub entryCount : ℕ → ℕ
 entryCount n = 2 * n - 1
 
 abbrev pub mostEntries : ℕ
 mostEntries = entryCount mostComponents
 
--- the most different intervals that a join's list may have
+-- The most different intervals that a join's list may have.
 abbrev pub mostIntervals : ℕ
 mostIntervals = 256
 
--- the bytes of a list record, and of the longest list
+-- The bytes of a list record, and of the longest list.
 abbrev pub recordBytes : ℕ
 recordBytes = 12
 
 abbrev pub listBytes : ℕ
 listBytes = recordBytes * mostIntervals
 
--- the bytes that the store (document 01: the list buffer) needs
+-- The bytes that the store (document 01: the list buffer) needs.
 abbrev pub storeBytes : ℕ
 storeBytes = 16384

@@ -1,11 +1,9 @@
 -- The structure: its entries, the structure function, and the sub-structures that they build. Assumes nothing.
 use Prim.Native.Nat.{ℕ, zero, suc}
-use mathlib.Core.Bool.{Bool, true, false, cond}
-use mathlib.Core.Path.{_≡_}
+use mathlib.Core.Bool.{Bool, true, false}
 use mathlib.Core.List.{List, [], _∷_, _++_}
-use lib.Dec.{ltb}
 use lib.ListN.{getD}
-use Rattle.theory.specs.Sums.{countOf}
+use Rattle.theory.specs.Sums.{EachOnce}
 use Rattle.theory.specs.Joins.{joined}
 use Rattle.theory.specs.declared.Join.{Join}
 use Rattle.theory.specs.declared.Entry.{Entry}
@@ -28,17 +26,17 @@ module _ {A : Type 0} (leaf : ℕ → A) (both : Join → A → A → A) where
 abbrev pub Φ : List Entry → List ℕ → ℕ
 Φ es speeds = getD (run (λ i. getD speeds i 0) joined es []) 0 0
 
--- the components that the entries name, in order
+-- The components that the entries name, in order.
 abbrev pub named : List Entry → List ℕ
 named [] = []
 named (component i ∷ es) = i ∷ named es
 named (join op ∷ es) = named es
 
--- each component below n is named exactly once, and no other (numbers 9 and 10)
+-- Each component below n is named exactly once, and no other (numbers 9 and 10).
 abbrev pub NamedOnce : ℕ → List Entry → Type 0
-NamedOnce n es = (i : ℕ) → countOf i (named es) ≡ cond (ltb i n) 1 0
+NamedOnce n es = EachOnce n (named es)
 
--- from a stack of h lists on, no join finds fewer than two (number 11)
+-- From a stack of h lists on, no join finds fewer than two (number 11).
 abbrev pub joinsFindTwo : List Entry → ℕ → Bool
 joinsFindTwo [] h = true
 joinsFindTwo (component i ∷ es) h = joinsFindTwo es (suc h)
@@ -46,7 +44,7 @@ joinsFindTwo (join op ∷ es) zero = false
 joinsFindTwo (join op ∷ es) (suc zero) = false
 joinsFindTwo (join op ∷ es) (suc (suc h)) = joinsFindTwo es (suc h)
 
--- A sub-structure: what one thing on the stack stands for.
+-- A sub-structure is what one thing on the stack stands for.
 pub data Tree : Type 0 where
   leaf : ℕ → Tree
   node : Join → Tree → Tree → Tree
@@ -54,7 +52,7 @@ pub data Tree : Type 0 where
 abbrev pub trees : List Entry → List Tree
 trees es = run leaf node es []
 
--- the components of a sub-structure
+-- The components of a sub-structure.
 abbrev pub leaves : Tree → List ℕ
 leaves (leaf i) = i ∷ []
 leaves (node op l r) = leaves l ++ leaves r
