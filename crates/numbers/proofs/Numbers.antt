@@ -8,7 +8,7 @@ use native.Mathlib.Omega.{arith}
 use lib.Arith.{digits-lt, digits-div, digits-mod, mod-mul}
 use lib.ListN.{length, take, drop, getD, set, take-append-drop, length-drop}
 use lib.Seq.{drop-cons, take-suc, append-snoc, set-at, length-take-le, take-all, getD-drop}
-use Rattle.numbers.specs.Numbers.{Bytes, bigEndian, onto}
+use Rattle.numbers.specs.Numbers.{Bytes, bigEndian, onto, numberAt}
 
 -- ---- one step along a list
 
@@ -33,9 +33,16 @@ pow7 i h = pow-le-pow-right (omega arith) h
 pub grow : (acc b i : ℕ) → acc < 256 ^ i → b < 256 → acc * 256 + b < 256 ^ (i + 1)
 grow acc b i h k = rw (add-one, pow-suc) (digits-lt h k)
 
-pub onto-next : (s : List ℕ) (acc k m : ℕ) → k < length s → onto acc (take (m + 1) (drop k s)) ≡ onto (acc * 256 + getD s k 0) (take m (drop (k + 1) s))
+onto-snoc : (acc : ℕ) (bs : List ℕ) (b : ℕ) → onto acc (bs ++ (b ∷ [])) ≡ onto acc bs * 256 + b
 unfolding onto
-onto-next s acc k m h = ap (onto acc) (part-cons s k m h)
+onto-snoc acc [] b = refl
+onto-snoc acc (x ∷ xs) b = onto-snoc (acc * 256 + x) xs b
+
+-- the number in one byte more
+pub number-next : (s : List ℕ) (a n : ℕ) → a + n < length s → numberAt s a (n + 1) ≡ numberAt s a n * 256 + getD s (a + n) 0
+number-next s a n h =
+    let l : n < length (drop a s) = rw length-drop (omega arith) in
+    rw (add-one, take-suc (drop a s) n 0, onto-snoc, getD-drop)
 
 pub bigEndian-next : (m v : ℕ) → bigEndian (m + 1) v ≡ (v / 256 ^ m) % 256 ∷ bigEndian m v
 unfolding bigEndian

@@ -1,0 +1,74 @@
+-- The number that a list of tests answers: that of the first broken one, or 0 where none is. Assumes nothing.
+use Prim.Native.Nat.{ℕ, _≤_, _<_}
+use mathlib.Core.Path.{_≡_, refl}
+use mathlib.Core.Logic.{_↔_}
+use mathlib.Core.Bool.{Bool, true, false, cond}
+use mathlib.Core.List.{List, [], _∷_, _++_}
+use native.Mathlib.Omega.{arith}
+use Rattle.theory.specs.Sums.{Every, none, more}
+use Rattle.theory.proofs.Every.{every-map}
+use Rattle.plan.specs.Tests.{Test, firstBroken, outside, anyOf, Unbroken, First, here, later}
+use Rattle.plan.proofs.Tests.{each, within}
+
+pub none-broken : {ts : List Test} → Every Unbroken ts → firstBroken ts ≡ 0
+none-broken none = refl
+none-broken (more e es) = rw e (none-broken es)
+
+all-unbroken : (ts : List Test) → Every (λ t. 0 < t .number) ts → firstBroken ts ≡ 0 → Every Unbroken ts
+all-unbroken [] none e = none
+all-unbroken (t ∷ ts) (more h hs) e = go (t .broken) refl (all-unbroken ts hs) e
+  where
+    go : (b : Bool) → t .broken ≡ b → (firstBroken ts ≡ 0 → Every Unbroken ts) → cond b (t .number) (firstBroken ts) ≡ 0 → Every Unbroken (t ∷ ts)
+    go true d f e = absurd (omega arith)
+    go false d f e = more d (f e)
+
+first-is : {ts : List Test} {k : ℕ} → First ts k → firstBroken ts ≡ k
+first-is (here q e) = rw q e
+first-is (later q r) = rw q (first-is r)
+
+is-first : (ts : List Test) (k : ℕ) → 0 < k → firstBroken ts ≡ k → First ts k
+is-first [] k h e = absurd (omega arith)
+is-first (t ∷ ts) k h e = go (t .broken) refl e (is-first ts k h)
+  where
+    go : (b : Bool) → t .broken ≡ b → firstBroken (t ∷ ts) ≡ k → (firstBroken ts ≡ k → First ts k) → First (t ∷ ts) k
+    go true q e rest = here q (rw q at e)
+    go false q e rest = later q (rest (rw q at e))
+
+at-most : (n : ℕ) {ts : List Test} → Every (λ t. t .number ≤ n) ts → firstBroken ts ≤ n
+at-most n none = omega arith
+at-most n (more {x = t} {xs = ts} p r) = go (t .broken) refl (at-most n r)
+  where
+    go : (b : Bool) → t .broken ≡ b → firstBroken ts ≤ n → firstBroken (t ∷ ts) ≤ n
+    go true q h = rw q p
+    go false q h = rw q h
+
+-- Tests whose numbers are 1 to n, which is seen by a test of all.
+module _ (n : ℕ) (ts : List Test) (e : anyOf (λ t. outside 1 n (t .number)) ts ≡ false) where
+  numbers : Every (λ t. (1 ≤ t .number) × (t .number ≤ n)) ts
+  numbers = each (λ t. outside 1 n (t .number)) ts (λ t h. within 1 n (t .number) h) e
+
+  pub no-number : firstBroken ts ≡ 0 → Every Unbroken ts
+  no-number = all-unbroken ts (every-map (λ t h. h .0) numbers)
+
+  pub accepted-by : (firstBroken ts ≡ 0) ↔ Every Unbroken ts
+  accepted-by = (no-number, none-broken)
+
+  pub most-number : firstBroken ts ≤ n
+  most-number = at-most n (every-map (λ t h. h .1) numbers)
+
+pub refused-by : (ts : List Test) (k : ℕ) → 0 < k → (firstBroken ts ≡ k) ↔ First ts k
+refused-by ts k h = (is-first ts k h, first-is)
+
+-- a number in the first list decides; where there is none, the second list does
+pub first-found : (ts us : List Test) → (firstBroken ts ≡ 0 → ⊥) → firstBroken (ts ++ us) ≡ firstBroken ts
+first-found [] us h = absurd (h refl)
+first-found (t ∷ ts) us h = go (t .broken) h (first-found ts us)
+  where
+    go : (b : Bool) → (cond b (t .number) (firstBroken ts) ≡ 0 → ⊥) → ((firstBroken ts ≡ 0 → ⊥) → firstBroken (ts ++ us) ≡ firstBroken ts)
+        → cond b (t .number) (firstBroken (ts ++ us)) ≡ cond b (t .number) (firstBroken ts)
+    go true h f = refl
+    go false h f = f h
+
+pub first-none : {ts : List Test} (us : List Test) → Every Unbroken ts → firstBroken (ts ++ us) ≡ firstBroken us
+first-none us none = refl
+first-none us (more e es) = rw e (first-none us es)

@@ -1,0 +1,22 @@
+-- `plan::bad_interval` meets its contract. Assumes nothing.
+use borrow.Author.Needs.{needs}
+use borrow.Author.Tests.{lt-ltb, le-ltb}
+use mathlib.Core.Path.{sym, _∙_}
+use native.Mathlib.Omega.{arith}
+use Rattle.plan.proofs.bad_interval.Statement.{statement}
+use Rattle.plan.proofs.bad_interval.Tie as tie
+
+returns : tie.Need-returns
+returns c = simp (sym (c .before .bad-alone .ensures) ∙ c .if1 .taken)
+
+returns-2 : tie.Need-returns-2
+returns-2 c = simp (sym (c .before .before .bad-alone .ensures) ∙ c .before .if1 .left, le-ltb 0 (c .before .before .before .before .before .before .args .j) (omega arith))
+
+returns-3 : tie.Need-returns-3
+returns-3 c = simp (sym (c .before .before .before .before .before .before .before .bad-alone .ensures) ∙ c .before .before .before .before .before .before .if1 .left, lt-ltb 0 (c .before .before .before .before .before .before .before .before .before .before .before .args .j) (omega arith), c .is-after .ensures)
+
+pub bad-interval-spec : {M : Type 1} → statement M
+bad-interval-spec =
+    tie.close (tie.spec (λ c. search needs) (λ c. search needs) (λ c. search needs) (λ c. search needs) (λ c. search needs) (λ c. search needs)
+    (λ c κs. search needs) returns returns-2 (λ c. search needs) (λ c. search needs) (λ c. search needs) (λ c. search needs) (λ c. search needs)
+    (λ c. search needs) (λ c. search needs) (λ c. search needs) (λ c. search needs) (λ c. search needs) (λ c κs. search needs) returns-3)

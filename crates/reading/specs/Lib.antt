@@ -1,0 +1,2 @@
+-- What a sheet reads as.
+pub mod Reading

@@ -1,0 +1,193 @@
+// A sheet read: its plan, or the number of the refusal.
+ghost use mathlib.Core.Path.{_≡_};
+ghost use Prim.Native.Nat.{_+_, _*_, _≤_};
+ghost use lib.ListN.{length};
+ghost use Rattle.theory.specs.Limits.{mostComponents, mostEntries};
+ghost use Rattle.plan.specs.Tests.{firstBroken};
+ghost use Rattle.plan.specs.Plan.{zeroPlan};
+ghost use Rattle.reading.specs.Reading.{entriesAt, noBlocks, blocksIn, headIn, layoutTests, Told, readOf};
+use plan::Flaws;
+use plan::Plan;
+use theory::Component;
+
+// What reading a sheet finds: the number of the refusal and a plan of zeros, or 0 and the plan.
+pub struct Reading {
+    pub plan: Plan,
+    pub number: u8,
+}
+
+// What reading a sheet's head finds: number 1, 2 or 3 and the count 0, or 0 and the component count.
+pub struct Head {
+    pub number: u8,
+    pub count: usize,
+}
+
+// The blocks of a sheet, read in turn: the components, whether one is cut short (number 4), whether a bit named zero is one
+// (number 5), which of the rules 6, 7 and 8 some component breaks, and the byte behind the last block.
+pub struct Blocks {
+    pub components: [Component; theory::MOST_COMPONENTS],
+    pub cut: bool,
+    pub nonzero: bool,
+    pub flaws: Flaws,
+    pub end: usize,
+}
+
+// Numbers 1 to 3 of a sheet, and its component count.
+fn read_head(sheet: &[u8]) -> Head
+    ensures { λ r. ⌜ r ≡ headIn (now (sheet .entry)) ⌝ }
+{
+    let len = sheet.len();
+    if len < 2 {
+        return Head {
+            number: 1,
+            count: 0,
+        };
+    }
+    let head = reader::three(sheet, 0, 4, 4, 8);
+    if head.third as usize != len {
+        return Head {
+            number: 1,
+            count: 0,
+        };
+    }
+    if head.first != 1 {
+        return Head {
+            number: 2,
+            count: 0,
+        };
+    }
+    let n = head.second as usize;
+    if plan::is_outside(1, theory::MOST_COMPONENTS, n) {
+        return Head {
+            number: 3,
+            count: 0,
+        };
+    }
+    Head {
+        number: 0,
+        count: n,
+    }
+}
+
+fn no_blocks() -> Blocks
+    ensures { λ r. ⌜ r ≡ noBlocks ⌝ }
+{
+    let c = block::zero_component();
+    let f = plan::no_flaws();
+    Blocks {
+        components: [c; theory::MOST_COMPONENTS],
+        cut: true,
+        nonzero: false,
+        flaws: f,
+        end: 0,
+    }
+}
+
+// The first n blocks of a sheet. Each is read from its own start, as a part of the sheet, and its component is tested at once.
+fn read_blocks(sheet: &[u8], n: usize) -> Blocks
+    requires { ⌜ (n ≤ mostComponents) × (2 ≤ length (now sheet)) ⌝ }
+    ensures { λ r. ⌜ r ≡ blocksIn (now (sheet .entry)) n ⌝ }
+{
+    let c = block::zero_component();
+    let mut components = [c; theory::MOST_COMPONENTS];
+    let mut nonzero = false;
+    let mut flaws = plan::no_flaws();
+    let mut end: usize = 2;
+    for i in 0..n {
+        let b = block::read_block(&sheet[end..]);
+        if b.cut {
+            return no_blocks();
+        }
+        let d = b.component;
+        nonzero = plan::either(nonzero, b.nonzero);
+        flaws = plan::either_flaws(flaws, plan::component_flaws(d));
+        end += b.size;
+        components[i] = d;
+    }
+    Blocks {
+        components: components,
+        cut: false,
+        nonzero: nonzero,
+        flaws: flaws,
+        end: end,
+    }
+}
+
+// The m codes from bit at on.
+fn read_entries(sheet: &[u8], at: usize, m: usize) -> [u8; theory::MOST_ENTRIES]
+    requires { ⌜ (m ≤ mostEntries) × (at + 4 * m ≤ 8 * length (now sheet)) × (at + 4 * m ≤ 65536) ⌝ }
+    ensures { λ r. ⌜ r ≡ entriesAt (now (sheet .entry)) at m ⌝ }
+{
+    let mut entries = [0u8; theory::MOST_ENTRIES];
+    for j in 0..m {
+        entries[j] = reader::one(sheet, at + 4 * j, 4) as u8;
+    }
+    entries
+}
+
+// Number 4 or 5 of a sheet whose n blocks were read up to byte end, or 0.
+fn layout_number(sheet: &[u8], n: usize, cut: bool, nonzero: bool, end: usize) -> u8
+    requires { ⌜ Told (now sheet) n cut nonzero end ⌝ }
+    ensures { λ r. ⌜ r ≡ firstBroken (layoutTests (now (sheet .entry))) ⌝ }
+{
+    if cut {
+        return 4;
+    }
+    if end + n != sheet.len() {
+        return 4;
+    }
+    if nonzero {
+        return 5;
+    }
+    let m = plan::entry_count(n);
+    if reader::one(sheet, 8 * end + 4 * m, 4) != 0 {
+        return 5;
+    }
+    0
+}
+
+fn refuse(number: u8) -> Reading
+    ensures { λ r. ⌜ r ≡ record { number = number; plan = zeroPlan } ⌝ }
+{
+    let c = block::zero_component();
+    let p = Plan {
+        components: [c; theory::MOST_COMPONENTS],
+        count: 0,
+        entries: [0; theory::MOST_ENTRIES],
+    };
+    Reading {
+        plan: p,
+        number: number,
+    }
+}
+
+// The plan of a sheet, or the least of the numbers 1 to 11 that applies.
+pub fn read_sheet(sheet: &[u8]) -> Reading
+    ensures { λ r. ⌜ r ≡ readOf (now (sheet .entry)) ⌝ }
+{
+    let head = read_head(sheet);
+    if head.number != 0 {
+        return refuse(head.number);
+    }
+    let n = head.count;
+    let b = read_blocks(sheet, n);
+    let end = b.end;
+    let layout = layout_number(sheet, n, b.cut, b.nonzero, end);
+    if layout != 0 {
+        return refuse(layout);
+    }
+    let m = plan::entry_count(n);
+    let entries = read_entries(sheet, 8 * end, m);
+    let flaws = b.flaws;
+    let number = plan::rules_number(flaws, entries, n);
+    if number != 0 {
+        return refuse(number);
+    }
+    let components = b.components;
+    let p = Plan {
+        components: components,
+        count: n,
+        entries: entries,
+    };
+    Reading { plan: p, number: 0 }
+}

@@ -1,0 +1,2 @@
+-- What a plan is written as.
+pub mod Writing

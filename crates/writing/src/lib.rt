@@ -1,0 +1,120 @@
+// A plan written as a sheet.
+ghost use mathlib.Core.Path.{_≡_};
+ghost use Prim.Native.Nat.{_+_, _*_, _≤_};
+ghost use mathlib.Core.List.{map};
+ghost use lib.ListN.{length};
+ghost use Rattle.field.specs.Fields.{bits, putAll};
+ghost use Rattle.plan.specs.Plan.{codesIn};
+ghost use Rattle.plan.specs.Rules.{Counted, Sized};
+ghost use Rattle.writing.specs.Writing.{endOf, lengthOf, blockFields, sheetFields, writtenOf, bytesAfter};
+use plan::Plan;
+
+// What writing a plan comes to: the number of the refusal and length 0, or 0 and the sheet's length.
+pub struct Written {
+    pub number: u8,
+    pub length: usize,
+}
+
+fn refuse(number: u8) -> Written
+    ensures { λ r. ⌜ r ≡ record { number = number; length = 0 } ⌝ }
+{
+    Written {
+        number: number,
+        length: 0,
+    }
+}
+
+// The bytes of a plan's sheet.
+fn sheet_length(p: Plan) -> usize
+    requires { ⌜ Sized p ⌝ }
+    ensures { λ r. ⌜ r ≡ lengthOf p ⌝ }
+{
+    let n = p.count;
+    let mut end: usize = 2;
+    for i in 0..n {
+        let c = p.components[i];
+        end += block::block_size(c.count);
+    }
+    end + n
+}
+
+// What writing a plan into a buffer of room bytes comes to.
+fn test_plan(p: Plan, room: usize) -> Written
+    ensures { λ r. ⌜ r ≡ writtenOf p room ⌝ }
+{
+    let n = p.count;
+    if plan::is_outside(1, theory::MOST_COMPONENTS, n) {
+        return refuse(3);
+    }
+    if plan::bad_counts(p) {
+        return refuse(4);
+    }
+    let entries = p.entries;
+    let number = plan::rules_number(plan::plan_flaws(p), entries, n);
+    if number != 0 {
+        return refuse(number);
+    }
+    let len = sheet_length(p);
+    if room < len {
+        return refuse(15);
+    }
+    Written {
+        number: 0,
+        length: len,
+    }
+}
+
+// The blocks of a plan, in the sheet at the front of out.
+fn put_blocks(out: &mut [u8], p: Plan)
+    requires { ⌜ Sized p ⌝ }
+    requires { ⌜ endOf p ≤ length (now out) ⌝ }
+    ensures { λ _. ⌜ now (out .exit) ≡ putAll (now (out .entry)) 16 (blockFields p) ⌝ }
+{
+    let n = p.count;
+    let mut end: usize = 2;
+    for i in 0..n {
+        let c = p.components[i];
+        block::write_block(&mut out[end..], c);
+        end += block::block_size(c.count);
+    }
+}
+
+// The codes of a structure of n components, from bit at on.
+fn put_entries(out: &mut [u8], at: usize, entries: [u8; theory::MOST_ENTRIES], n: usize)
+    requires { ⌜ Counted n ⌝ }
+    requires { ⌜ (at + 8 * n ≤ 8 * length (now out)) × (at + 8 * n ≤ 65536) ⌝ }
+    ensures { λ _. ⌜ now (out .exit) ≡ putAll (now (out .entry)) at (map (bits 4) (codesIn entries n)) ⌝ }
+{
+    let m = plan::entry_count(n);
+    for j in 0..m {
+        field::put_field(out, at + 4 * j, 4, entries[j] as u32);
+    }
+}
+
+// The sheet of a plan, of len bytes, at the front of out.
+fn put_sheet(out: &mut [u8], p: Plan, len: usize)
+    requires { ⌜ Sized p ⌝ }
+    requires { ⌜ (len ≡ lengthOf p) × (len ≤ length (now out)) ⌝ }
+    ensures { λ _. ⌜ now (out .exit) ≡ putAll (now (out .entry)) 0 (sheetFields p) ⌝ }
+{
+    let n = p.count;
+    let entries = p.entries;
+    let at = 8 * (len - n);
+    field::put_three(out, 0, 4, 1, 4, n as u32, 8, len as u32);
+    put_blocks(out, p);
+    put_entries(out, at, entries, n);
+    field::put_field(out, at + 4 * plan::entry_count(n), 4, 0);
+}
+
+// The sheet of a plan at the front of out; where the plan is refused, out stays as it is.
+pub fn write_sheet(p: Plan, out: &mut [u8]) -> Written
+    ensures { λ r. ⌜ r ≡ writtenOf p (length (now (out .entry))) ⌝ }
+    ensures { λ r. ⌜ now (out .exit) ≡ bytesAfter p (now (out .entry)) ⌝ }
+{
+    let w = test_plan(p, out.len());
+    if w.number != 0 {
+        return w;
+    }
+    put_sheet(out, p, w.length);
+    w
+}
