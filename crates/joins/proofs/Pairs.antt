@@ -10,20 +10,15 @@ use lib.Seq.{drop-cons}
 use Rattle.theory.specs.Sums.{Every}
 use Rattle.theory.specs.Focal.{Focal, weights, noFocal}
 use Rattle.theory.specs.declared.Join.{Join}
-use Rattle.theory.specs.declared.Join.the-variants.{Series, Shared, Spare}
-use Rattle.theory.specs.Joins.{joined, joinedFocal, pairs}
+use Rattle.theory.specs.Joins.{joinedFocal, pairs}
+use Rattle.theory.proofs.Monotone.{joined-le}
 use Rattle.theory.proofs.Every.{every-image}
 use Rattle.records.specs.Records.{intervalAt, Under, speedLimit}
 use Rattle.joins.specs.Joins.{rowOf, operandLimit}
 
-joined-lt : (op : Join) (x y : ℕ) → x < operandLimit → y < operandLimit → joined op x y < speedLimit
-joined-lt Series x y h k = omega arith
-joined-lt Shared x y h k = omega arith
-joined-lt Spare x y h k = omega arith
-
 module _ (op : Join) (f : Focal) where
   pub joined-under : (g : Focal) → Under operandLimit f → Under operandLimit g → Under speedLimit (joinedFocal op f g)
-  joined-under g h u = (joined-lt op (f .low) (g .low) (h .0) (u .0), joined-lt op (f .high) (g .high) (h .1) (u .1))
+  joined-under g h u = (omega (arith, joined-le op (f .low) (g .low)), omega (arith, joined-le op (f .high) (g .high)))
 
   pub row-under : {l : List Focal} → Under operandLimit f → Every (Under operandLimit) l → Every (Under speedLimit) (rowOf op f l)
   row-under h u = every-image (joinedFocal op f) (λ g. joined-under g h) u
