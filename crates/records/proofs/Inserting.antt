@@ -13,11 +13,11 @@ use Rattle.theory.specs.Focal.{Focal, weights}
 use Rattle.theory.specs.Lists.{order, inserted, merged}
 use Rattle.theory.specs.Limits.{mostIntervals}
 use Rattle.records.specs.declared.Insertion.{Insertion}
-use Rattle.records.specs.Records.{bytesOf, encode, recordAt, records, intervalAt}
+use Rattle.records.specs.Records.{bytesOf, encode, recordAt, records}
 use Rattle.records.specs.Store.{withRecord, movedUp, holding}
 use Rattle.records.specs.Insertion.{place, insertionOf, insertOrStay}
 use Rattle.numbers.specs.Numbers.{Bytes}
-use Rattle.records.proofs.Records.{length-encode, length-records, records-at, encode-append, holds, take-encode, drop-encode}
+use Rattle.records.proofs.Records.{intervalAt, length-encode, length-records, records-at, encode-append, holds, take-encode, drop-encode}
 use Rattle.records.proofs.Place.{insert-met, insert-new, place-count}
 
 pub stay-fits : (f : Focal) (l : List Focal) → length (inserted f l) ≤ mostIntervals → insertOrStay f l ≡ inserted f l

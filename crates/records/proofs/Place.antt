@@ -4,7 +4,7 @@ use mathlib.Core.Path.{_≡_, refl, sym, ap, _∙_}
 use mathlib.Core.Bool.{Bool, true, false, cond}
 use mathlib.Core.Logic.{⊎-elim, inl, inr}
 use mathlib.Core.List.{List, [], _∷_, _++_}
-use Prim.Native.Nat.{ℕ, zero, suc, _*_, _≤_, _<_, Ordering, Ordering·lt, Ordering·eq, Ordering·gt}
+use Prim.Native.Nat.{ℕ, zero, suc, _≤_, _<_, Ordering, Ordering·lt, Ordering·eq, Ordering·gt}
 use native.Mathlib.Nat.{not-suc-le-zero, le-of-suc-le-suc, eq-or-lt-of-le}
 use native.Mathlib.Omega.{arith}
 use lib.Dec.{ltb, eqb, isEq}
@@ -18,10 +18,9 @@ use Rattle.theory.proofs.Order.{Placed, placed, before-trans, order-before}
 use Rattle.theory.proofs.Every.{index-of-every}
 use Rattle.theory.proofs.Lists.{insert-skip, insert-here, insert-same}
 use Rattle.numbers.specs.Numbers.{Bytes}
-use Rattle.numbers.proofs.Numbers.{bytes-drop}
-use Rattle.records.specs.Records.{keyOf, keyed, withWeight, intervalAt, recordAt, records, speedLimit}
+use Rattle.records.specs.Records.{keyOf, keyed, withWeight, recordAt, records, speedLimit}
 use Rattle.records.specs.Insertion.{isBefore, place}
-use Rattle.records.proofs.Records.{length-records, records-at, head-under}
+use Rattle.records.proofs.Records.{intervalAt, length-records, records-at, record-under}
 
 -- ---- what the order of two intervals says
 
@@ -58,7 +57,7 @@ pub key-tests : (s : List ℕ) (i key : ℕ) → Bytes s → let f = recordAt s 
 key-tests s i key b =
     let f : Focal = recordAt s i in
     let g : Focal = keyed key 0 in
-    let u : f .high < speedLimit = head-under (drop (12 * i) s) (bytes-drop (12 * i) s b) .1 in
+    let u : f .high < speedLimit = record-under s i b .1 in
     let v : g .high < speedLimit = omega arith in
     by-order (λ o. (ltb (keyOf f) key ≡ isBefore o) × (eqb (keyOf f) key ≡ isEq o)) f g
     (λ h. (lt-ltb (keyOf f) key (omega (arith, key-lt f g u v h)), ne-eqb (keyOf f) key (λ e. omega (arith, key-lt f g u v h))))

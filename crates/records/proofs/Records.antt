@@ -1,16 +1,18 @@
 -- Laws of records in bytes: read, written, there and back. Callers speak of records by these. Assumes nothing.
-use mathlib.Core.Path.{_≡_, refl, sym, ap, _∙_}
+use mathlib.Core.Path.{_≡_, refl, sym, ap, _∙_, subst}
 use mathlib.Core.List.{List, [], _∷_, _++_, append-assoc}
 use Prim.Native.Nat.{ℕ, zero, suc, _+_, _*_, _-_, _/_, _%_, _^_, _≤_, _<_}
 use native.Mathlib.Nat.{not-suc-le-zero, le-of-suc-le-suc}
+use native.Mathlib.Numerals.{add-one}
 use native.Mathlib.Omega.{arith}
-use lib.ListN.{length, take, drop, length-append, length-drop, take-append-drop}
-use lib.Seq.{drop-drop, take-add, length-take-le, take-at, drop-at, take-append-le, take-take}
+use lib.ListN.{length, take, drop, getD, length-append, length-drop, take-append-drop, drop-of-length-le}
+use lib.Seq.{drop-cons, drop-drop, take-add, length-take-le, take-at, drop-at, take-append-le, take-take}
 use Rattle.theory.specs.Sums.{Every}
-use Rattle.theory.specs.Focal.{Focal, weights}
+use Rattle.theory.specs.Focal.{Focal, weights, noFocal}
+use Rattle.theory.proofs.Every.{index-of-every}
 use Rattle.numbers.specs.Numbers.{bigEndian, onto, numberAt, Bytes}
 use Rattle.numbers.proofs.Numbers.{bytes-drop, bytes-take, bigEndian-onto, read-back}
-use Rattle.records.specs.Records.{keyOf, keyed, bytesOf, encode, headRecord, recordAt, records, intervalAt, withWeight, Under, speedLimit}
+use Rattle.records.specs.Records.{keyOf, keyed, bytesOf, encode, headRecord, recordAt, records, withWeight, Under, speedLimit}
 use Rattle.records.specs.Store.{replaced, holding}
 
 -- ---- a record in bytes
@@ -44,14 +46,18 @@ pub length-bytesOf : (r : Focal) → length (bytesOf r) ≡ 12
 unfolding bytesOf bigEndian
 length-bytesOf r = refl
 
--- an interval from its key
+-- the ends of an interval from its key, and the interval
+pub key-ends : (f : Focal) {key : ℕ} → key ≡ keyOf f → f .high < speedLimit → (key / speedLimit ≡ f .low) × (key % speedLimit ≡ f .high)
+key-ends f e h = (omega arith, omega arith)
+
 pub from-key : (f : Focal) → f .high < speedLimit → keyed (keyOf f) (f .weight) ≡ f
-from-key f h =
-    let l : keyOf f / speedLimit ≡ f .low = omega arith in
-    let k : keyOf f % speedLimit ≡ f .high = omega arith in
-    λ t. record { low = l t; high = k t; weight = f .weight }
+from-key f h = let e = key-ends f {key = keyOf f} refl h in λ t. record { low = e .0 t; high = e .1 t; weight = f .weight }
 
 -- ---- lists of records
+
+-- interval i of a list
+abbrev pub intervalAt : List Focal → ℕ → Focal
+intervalAt l i = getD l i noFocal
 
 pub length-encode : (l : List Focal) → length (encode l) ≡ 12 * length l
 unfolding encode
@@ -75,6 +81,18 @@ records-at (suc n) zero s h = refl
 records-at (suc n) (suc i) s h =
     let e : 12 + 12 * i ≡ 12 * suc i = omega arith in
     records-at n i (drop 12 s) (le-of-suc-le-suc h) ∙ ap headRecord (drop-drop (12 * i) 12 s ∙ ap (λ (k : ℕ). drop k s) e)
+
+-- from record i on
+pub records-next : (n i : ℕ) (s : List ℕ) → i < n → drop i (records n s) ≡ recordAt s i ∷ drop (i + 1) (records n s)
+records-next n i s h =
+    let l : i < length (records n s) = rw length-records h in
+    rw (drop-cons (records n s) i noFocal l, add-one, records-at n i s h)
+
+pub records-end : (n i : ℕ) (s : List ℕ) → n ≤ i → drop i (records n s) ≡ []
+records-end n i s h = drop-of-length-le (records n s) {i = i} (rw length-records h)
+
+pub records-each : {P : Focal → Type 0} (n i : ℕ) (s : List ℕ) → Every P (records n s) → i < n → P (recordAt s i)
+records-each {P} n i s e h = subst P (records-at n i s h) (index-of-every noFocal e i (rw length-records h))
 
 -- ---- a record written
 
@@ -149,9 +167,12 @@ two-lt [] h = omega arith
 two-lt (a ∷ []) h = omega (arith, h 0)
 two-lt (a ∷ b ∷ t) h = omega (arith, h 0, h 1)
 
-pub head-under : (s : List ℕ) → Bytes s → Under speedLimit (headRecord s)
+head-under : (s : List ℕ) → Bytes s → Under speedLimit (headRecord s)
 unfolding headRecord
 head-under s h = (two-lt s h, two-lt (drop 2 s) (bytes-drop 2 s h))
+
+pub record-under : (s : List ℕ) (i : ℕ) → Bytes s → Under speedLimit (recordAt s i)
+record-under s i h = head-under (drop (12 * i) s) (bytes-drop (12 * i) s h)
 
 pub records-under : (n : ℕ) (s : List ℕ) → Bytes s → Every (Under speedLimit) (records n s)
 unfolding records

@@ -2,14 +2,10 @@
 -- first. Assumes nothing.
 use Prim.Native.Nat.{ℕ, zero, suc, _+_, _*_, _/_, _%_, _<_}
 use mathlib.Core.List.{List, [], _∷_, _++_}
-use lib.ListN.{drop, getD}
-use Rattle.theory.specs.Focal.{Focal, focal, noFocal}
+use lib.ListN.{drop}
+use Rattle.theory.specs.Focal.{Focal, focal}
 use Rattle.theory.specs.Limits.{recordBytes}
 use Rattle.numbers.specs.Numbers.{bigEndian, numberAt}
-
--- interval i of a list
-abbrev pub intervalAt : List Focal → ℕ → Focal
-intervalAt l i = getD l i noFocal
 
 -- an interval with another weight
 abbrev pub withWeight : Focal → ℕ → Focal

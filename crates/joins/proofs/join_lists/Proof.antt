@@ -2,25 +2,24 @@
 -- wanted. Assumes nothing.
 use mathlib.Core.Path.{_≡_, refl, sym, ap, _∙_, subst}
 use mathlib.Core.List.{List, [], _++_}
-use Prim.Native.Nat.{_≤_, _<_, _+_, _*_, _-_}
+use Prim.Native.Nat.{_≤_, _+_, _*_, _-_}
 use native.Mathlib.Nat.{zero-add}
 use native.Mathlib.Omega.{arith}
-use lib.ListN.{length, drop, drop-of-length-le}
+use lib.ListN.{drop}
 use Rattle.theory.specs.Sums.{Every}
-use Rattle.theory.specs.Focal.{Focal, weights, noFocal}
+use Rattle.theory.specs.Focal.{Focal, weights}
 use Rattle.theory.specs.Joins.{pairs}
 use Rattle.theory.specs.Lists.{InOrder}
-use Rattle.theory.proofs.Every.{index-of-every}
 use Rattle.theory.proofs.Totals.{weights-pairs}
-use Rattle.records.specs.Records.{keyOf, keyed, recordAt, records, intervalAt, Under, speedLimit}
+use Rattle.records.specs.Records.{keyed, recordAt, records, Under, speedLimit}
 use Rattle.records.specs.Store.{holding}
 use Rattle.records.specs.Insertion.{Insertable}
-use Rattle.records.proofs.Records.{length-records, records-at, from-key}
+use Rattle.records.proofs.Records.{from-key, records-next, records-end, records-each}
 use Rattle.joins.specs.Filling.{Filled, fill}
 use Rattle.joins.specs.Joins.{rowOf, operandLimit}
 use Rattle.joins.proofs.Holding.{held, length-now}
 use Rattle.joins.proofs.Filling.{Filling, Done, row-insertable, filling-row, filling-row-stop, filling-done}
-use Rattle.joins.proofs.Pairs.{row-under, row-weights, pairs-next}
+use Rattle.joins.proofs.Pairs.{row-under, row-weights}
 use Rattle.joins.proofs.join_lists.Statement.{statement}
 use Rattle.joins.proofs.join_lists.Tie as tie
 
@@ -42,16 +41,13 @@ abbrev start : tie.In-loop Inv-loop μ-loop → tie.Start Inv-loop μ-loop
 start c = c .before .before .before .before .before
 
 abbrev own : tie.In-loop Inv-loop μ-loop → Focal
-own c = intervalAt (left (start c)) (c .before .loop .i)
+own c = recordAt (start c .args .a .now) (c .before .loop .i)
 
 abbrev wanted : tie.Start Inv-loop μ-loop → Filled
 wanted c = fill [] (pairs (c .args .op) (left c) (right c))
 
-there : (c : tie.In-loop Inv-loop μ-loop) → c .before .loop .i < length (left (start c))
-there c = omega (arith, length-records (start c .args .na) (start c .args .a .now), c .loop-test .taken)
-
 small : (c : tie.In-loop Inv-loop μ-loop) → Under operandLimit (own c)
-small c = index-of-every noFocal (start c .pre .1 .0 .0) (c .before .loop .i) (there c)
+small c = records-each (start c .args .na) (c .before .loop .i) (start c .args .a .now) (start c .pre .1 .0 .0) (c .loop-test .taken)
 
 abbrev this : tie.In-loop Inv-loop μ-loop → List Focal
 this c = rowOf (start c .args .op) (own c) (right (start c))
@@ -61,16 +57,12 @@ later c = pairs (start c .args .op) (drop (c .before .loop .i + 1) (left (start 
 
 turn : (c : tie.In-loop Inv-loop μ-loop) → Filling (start c .args .out .now) (c .before .loop .out) (c .before .loop .m) (this c ++ later c) (wanted (start c))
 turn c =
-    subst (λ (l : List Focal). Filling (start c .args .out .now) (c .before .loop .out) (c .before .loop .m) l (wanted (start c)))
-    (pairs-next (start c .args .op) (left (start c)) (right (start c)) (c .before .loop .i) (there c)) (c .before .loop .inv .1)
+    subst (λ (l : List Focal). Filling (start c .args .out .now) (c .before .loop .out) (c .before .loop .m) (pairs (start c .args .op) l (right (start c))) (wanted (start c)))
+    (records-next (start c .args .na) (c .before .loop .i) (start c .args .a .now) (c .loop-test .taken)) (c .before .loop .inv .1)
 
 -- what is handed on is the record
 handed : (c : tie.After-weight-at Inv-loop μ-loop) → keyed (c .before .key-at .result) (c .weight-at .result) ≡ own (c .before .before)
-handed c =
-    let i = c .before .before in
-    let same : recordAt (start i .args .a .now) (i .before .loop .i) ≡ own i = sym (records-at (start i .args .na) (i .before .loop .i) (start i .args .a .now) (i .loop-test .taken)) in
-    (λ t. keyed ((c .before .key-at .ensures ∙ ap keyOf same) t) ((c .weight-at .ensures ∙ ap (λ (r : Focal). r .weight) same) t))
-    ∙ from-key (own i) (omega (arith, small i))
+handed c = (λ t. keyed (c .before .key-at .ensures t) (c .weight-at .ensures t)) ∙ from-key (own (c .before .before)) (omega (arith, small (c .before .before)))
 
 loop-holds : tie.Need-loop-holds Inv-loop μ-loop
 unfolding records
@@ -135,7 +127,7 @@ loop-again c =
 returns-2 : tie.Need-returns-2 Inv-loop μ-loop
 returns-2 c =
     let s = c .before .before .before .before .before in
-    let e : drop (c .before .loop .i) (left s) ≡ [] = drop-of-length-le (left s) {i = c .before .loop .i} (omega (arith, length-records (s .args .na) (s .args .a .now), c .loop-test .left)) in
+    let e : drop (c .before .loop .i) (left s) ≡ [] = records-end (s .args .na) (c .before .loop .i) (s .args .a .now) (c .loop-test .left) in
     let d : Done (s .args .out .now) (c .before .loop .out) (c .before .loop .m) (wanted s) =
     filling-done
     (subst (λ (l : List Focal). Filling (s .args .out .now) (c .before .loop .out) (c .before .loop .m) (pairs (s .args .op) l (right s)) (wanted s)) e (c .before .loop .inv .1)) in

@@ -4,17 +4,16 @@ use mathlib.Core.Path.{_≡_, refl, sym, ap, _∙_, subst}
 use mathlib.Core.List.{List, [], _∷_}
 use Prim.Native.Nat.{ℕ, _≤_, _<_, _+_, _*_, _-_, _/_, _%_, _^_}
 use native.Mathlib.Omega.{arith}
-use lib.ListN.{length, drop, drop-of-length-le}
-use Rattle.theory.specs.Focal.{Focal, weights, noFocal}
+use lib.ListN.{drop}
+use Rattle.theory.specs.Focal.{Focal, weights}
 use Rattle.theory.specs.Joins.{joined, joinedFocal}
-use Rattle.theory.proofs.Every.{index-of-every}
-use Rattle.records.specs.Records.{keyOf, keyed, recordAt, records, intervalAt, Under, speedLimit}
-use Rattle.records.proofs.Records.{length-records, records-at, from-key}
+use Rattle.records.specs.Records.{keyOf, keyed, recordAt, records, Under, speedLimit}
+use Rattle.records.proofs.Records.{key-ends, from-key, records-next, records-end, records-each}
 use Rattle.joins.specs.Filling.{Filled}
 use Rattle.joins.specs.Joins.{rowOf, filledRow, operandLimit}
 use Rattle.joins.proofs.Holding.{held, length-now, insertable}
 use Rattle.joins.proofs.Filling.{Filling, Done, fits-now, filling-step, filling-stop, filling-done}
-use Rattle.joins.proofs.Pairs.{joined-under, row-weights, row-next}
+use Rattle.joins.proofs.Pairs.{joined-under, row-weights}
 use Rattle.joins.proofs.join_row.Statement.{statement}
 use Rattle.joins.proofs.join_row.Tie as tie
 
@@ -36,7 +35,7 @@ abbrev start : tie.In-loop Inv-loop μ-loop → tie.Start Inv-loop μ-loop
 start c = c .before .before .before .before
 
 abbrev other : tie.In-loop Inv-loop μ-loop → Focal
-other c = intervalAt (others (start c)) (c .before .loop .j)
+other c = recordAt (start c .args .b .now) (c .before .loop .j)
 
 abbrev pair : tie.In-loop Inv-loop μ-loop → Focal
 pair c = joinedFocal (start c .args .op) (own (start c)) (other c)
@@ -44,32 +43,21 @@ pair c = joinedFocal (start c .args .op) (own (start c)) (other c)
 abbrev wanted : tie.Start Inv-loop μ-loop → Filled
 wanted c = filledRow (c .args .op) (own c) (c .args .b .now) (c .args .nb) (c .args .out .now) (c .args .n)
 
-there : (c : tie.In-loop Inv-loop μ-loop) → c .before .loop .j < length (others (start c))
-there c = omega (arith, length-records (start c .args .nb) (start c .args .b .now), c .loop-test .taken)
-
 small : (c : tie.In-loop Inv-loop μ-loop) → Under operandLimit (other c)
-small c = index-of-every noFocal (start c .pre .1 .1 .1) (c .before .loop .j) (there c)
+small c = records-each (start c .args .nb) (c .before .loop .j) (start c .args .b .now) (start c .pre .1 .1 .1) (c .loop-test .taken)
 
 pair-under : (c : tie.In-loop Inv-loop μ-loop) → Under speedLimit (pair c)
 pair-under c = joined-under (start c .args .op) (own (start c)) (other c) (start c .pre .1 .1 .0) (small c)
-
-same : (c : tie.In-loop Inv-loop μ-loop) → other c ≡ recordAt (start c .args .b .now) (c .before .loop .j)
-same c = records-at (start c .args .nb) (c .before .loop .j) (start c .args .b .now) (c .loop-test .taken)
 
 turn : (c : tie.In-loop Inv-loop μ-loop)
     → Filling (start c .args .out .now) (c .before .loop .out) (c .before .loop .m)
     (pair c ∷ rowOf (start c .args .op) (own (start c)) (drop (c .before .loop .j + 1) (others (start c)))) (wanted (start c))
 turn c =
-    subst (λ (l : List Focal). Filling (start c .args .out .now) (c .before .loop .out) (c .before .loop .m) l (wanted (start c)))
-    (row-next (start c .args .op) (own (start c)) (others (start c)) (c .before .loop .j) (there c)) (c .before .loop .inv .1)
+    subst (λ (l : List Focal). Filling (start c .args .out .now) (c .before .loop .out) (c .before .loop .m) (rowOf (start c .args .op) (own (start c)) l) (wanted (start c)))
+    (records-next (start c .args .nb) (c .before .loop .j) (start c .args .b .now) (c .loop-test .taken)) (c .before .loop .inv .1)
 
-key-is : (c : tie.After-key-at Inv-loop μ-loop) → (c .key-at .result / speedLimit ≡ other (c .before) .low) × (c .key-at .result % speedLimit ≡ other (c .before) .high)
-key-is c =
-    let e : c .key-at .result ≡ keyOf (other (c .before)) = c .key-at .ensures ∙ ap keyOf (sym (same (c .before))) in
-    (omega (arith, e, small (c .before)), omega (arith, e, small (c .before)))
-
-weight-is : (c : tie.After-weight-at Inv-loop μ-loop) → c .weight-at .result ≡ other (c .before .before .before .before) .weight
-weight-is c = c .weight-at .ensures ∙ ap (λ (f : Focal). f .weight) (sym (same (c .before .before .before .before)))
+ends : (c : tie.After-key-at Inv-loop μ-loop) → (c .key-at .result / speedLimit ≡ other (c .before) .low) × (c .key-at .result % speedLimit ≡ other (c .before) .high)
+ends c = key-ends (other (c .before)) (c .key-at .ensures) (omega (arith, small (c .before)))
 
 -- what goes in is the pair
 abbrev turn-of : tie.After-product-weight Inv-loop μ-loop → tie.In-loop Inv-loop μ-loop
@@ -80,12 +68,12 @@ made c = record { low = c .before .before .before .join-speeds .result; high = c
 
 made-is : (c : tie.After-product-weight Inv-loop μ-loop) → made c ≡ pair (turn-of c)
 made-is c =
-    let k = key-is (c .before .before .before .before) in
+    let k = ends (c .before .before .before .before) in
     let a = start (turn-of c) .args in
     λ t. record {
       low = (c .before .before .before .join-speeds .ensures ∙ ap (joined (a .op) (own (start (turn-of c)) .low)) (k .0)) t;
       high = (c .before .before .join-speeds2 .ensures ∙ ap (joined (a .op) (own (start (turn-of c)) .high)) (k .1)) t;
-      weight = (c .product-weight .ensures ∙ ap (λ (w : ℕ). a .weight * w) (weight-is (c .before))) t;
+      weight = (c .product-weight .ensures ∙ ap (λ (w : ℕ). a .weight * w) (c .before .weight-at .ensures)) t;
     }
 
 made-under : (c : tie.After-product-weight Inv-loop μ-loop) → Under speedLimit (made c)
@@ -107,13 +95,13 @@ loop-holds c =
     )
 
 join-speeds-requires : tie.Need-join-speeds-requires Inv-loop μ-loop
-join-speeds-requires c κs = omega (arith, key-is c, small (c .before), start (c .before) .pre)
+join-speeds-requires c κs = omega (arith, ends c, small (c .before), start (c .before) .pre)
 
 join-speeds-requires-2 : tie.Need-join-speeds-requires-2 Inv-loop μ-loop
-join-speeds-requires-2 c κs = omega (arith, key-is (c .before), small (c .before .before), start (c .before .before) .pre)
+join-speeds-requires-2 c κs = omega (arith, ends (c .before), small (c .before .before), start (c .before .before) .pre)
 
 product-weight-requires : tie.Need-product-weight-requires Inv-loop μ-loop
-product-weight-requires c κs = rw (weight-is c) (omega (arith, fits-now (turn (c .before .before .before .before))))
+product-weight-requires c κs = rw (c .weight-at .ensures) (omega (arith, fits-now (turn (c .before .before .before .before))))
 
 insert-requires : tie.Need-insert-requires Inv-loop μ-loop
 insert-requires c κs =
@@ -141,7 +129,7 @@ loop-again c =
 returns-2 : tie.Need-returns-2 Inv-loop μ-loop
 returns-2 c =
     let s = c .before .before .before .before in
-    let e : drop (c .before .loop .j) (others s) ≡ [] = drop-of-length-le (others s) {i = c .before .loop .j} (omega (arith, length-records (s .args .nb) (s .args .b .now), c .loop-test .left)) in
+    let e : drop (c .before .loop .j) (others s) ≡ [] = records-end (s .args .nb) (c .before .loop .j) (s .args .b .now) (c .loop-test .left) in
     let d : Done (s .args .out .now) (c .before .loop .out) (c .before .loop .m) (wanted s) =
     filling-done
     (subst (λ (l : List Focal). Filling (s .args .out .now) (c .before .loop .out) (c .before .loop .m) (rowOf (s .args .op) (own s) l) (wanted s)) e (c .before .loop .inv .1)) in

@@ -1,35 +1,27 @@
 -- `records::shares_at` meets its contract. The invariant: the sums so far and those of what is left give the sums of all. Assumes nothing.
-use mathlib.Core.Path.{_≡_, sym, ap, _∙_}
+use mathlib.Core.Path.{_≡_, ap, _∙_}
 use mathlib.Core.Bool.{Bool, true, false, cond}
 use mathlib.Core.List.{List, []}
-use Prim.Native.Nat.{ℕ, _≤_, _<_, _+_, _-_, _/_, _%_}
+use Prim.Native.Nat.{ℕ, _≤_, _+_, _-_, _/_, _%_}
 use native.Mathlib.Omega.{arith}
-use native.Mathlib.Numerals.{add-one}
 use lib.Dec.{leb}
-use lib.ListN.{length, drop, drop-of-length-le}
-use lib.Seq.{drop-cons}
+use lib.ListN.{drop}
 use borrow.Author.Needs.{needs}
-use Rattle.theory.specs.Focal.{Focal, weights, noFocal}
+use Rattle.theory.specs.Focal.{Focal, weights}
 use Rattle.theory.specs.Choices.{weightWhere, belief, plausibility}
-use Rattle.theory.proofs.Every.{index-of-every}
 use Rattle.theory.proofs.Sums.{sum-le}
-use Rattle.records.specs.Records.{keyOf, recordAt, records, intervalAt, Under, speedLimit}
-use Rattle.records.proofs.Records.{length-records, records-at, records-under}
+use Rattle.records.specs.Records.{recordAt, records, speedLimit}
+use Rattle.records.proofs.Records.{key-ends, records-next, records-end, record-under}
 use Rattle.records.proofs.shares_at.Statement.{statement}
 use Rattle.records.proofs.shares_at.Tie as tie
 
--- a sum of the weights that pass a test, one interval after the other, and never above the sum of all
-module _ (test : ℕ → ℕ → Bool) (l : List Focal) where
-  next : (i : ℕ) → i < length l → let f = intervalAt l i in
-      weightWhere test (drop i l) ≡ cond (test (f .low) (f .high)) (f .weight) 0 + weightWhere test (drop (i + 1) l)
-  next i h = ap (weightWhere test) (drop-cons l i noFocal h) ∙ rw (add-one i)
-
-  within : weightWhere test l ≤ weights l
-  within = sum-le (λ f. at-most (test (f .low) (f .high)) (f .weight)) l
-    where
-      at-most : (b : Bool) (w : ℕ) → cond b w 0 ≤ w
-      at-most true w = omega arith
-      at-most false w = omega arith
+-- a sum of the weights that pass a test is never above the sum of all
+within : (test : ℕ → ℕ → Bool) (l : List Focal) → weightWhere test l ≤ weights l
+within test l = sum-le (λ f. at-most (test (f .low) (f .high)) (f .weight)) l
+  where
+    at-most : (b : Bool) (w : ℕ) → cond b w 0 ≤ w
+    at-most true w = omega arith
+    at-most false w = omega arith
 
 abbrev Inv-loop : tie.InvT-loop
 Inv-loop s n demand belief₀ plausibility₀ i₀ b p i =
@@ -45,38 +37,27 @@ abbrev list : tie.In-loop Inv-loop μ-loop → List Focal
 list c = records (start c .args .n) (start c .args .s .now)
 
 abbrev this : tie.In-loop Inv-loop μ-loop → Focal
-this c = intervalAt (list c) (c .before .loop .i)
-
-there : (c : tie.In-loop Inv-loop μ-loop) → c .before .loop .i < length (list c)
-there c = omega (arith, length-records (start c .args .n) (start c .args .s .now), c .loop-test .taken)
-
-same : (c : tie.In-loop Inv-loop μ-loop) → recordAt (start c .args .s .now) (c .before .loop .i) ≡ this c
-same c = sym (records-at (start c .args .n) (c .before .loop .i) (start c .args .s .now) (c .loop-test .taken))
+this c = recordAt (start c .args .s .now) (c .before .loop .i)
 
 -- what each end counts in this turn
-key-is : (c : tie.After-key-at Inv-loop μ-loop) → (c .key-at .result / speedLimit ≡ this (c .before) .low) × (c .key-at .result % speedLimit ≡ this (c .before) .high)
-key-is c =
+ends : (c : tie.After-key-at Inv-loop μ-loop) → (c .key-at .result / speedLimit ≡ this (c .before) .low) × (c .key-at .result % speedLimit ≡ this (c .before) .high)
+ends c =
     let i = c .before in
-    let e : c .key-at .result ≡ keyOf (this i) = c .key-at .ensures ∙ ap keyOf (same i) in
-    let u : Under speedLimit (this i) =
-    index-of-every noFocal (records-under (start i .args .n) (start i .args .s .now) (λ k. i .before .before .shared-slice-known .given k .fits)) (i .before .loop .i) (there i) in
-    (omega (arith, e), omega (arith, e))
-
-weight-is : (c : tie.After-weight-at Inv-loop μ-loop) → c .weight-at .result ≡ this (c .before .before) .weight
-weight-is c = c .weight-at .ensures ∙ ap (λ (f : Focal). f .weight) (same (c .before .before))
+    key-ends (this i) (c .key-at .ensures) (record-under (start i .args .s .now) (i .before .loop .i) (λ k. i .before .before .shared-slice-known .given k .fits) .1)
 
 low-counts : (c : tie.After-counted Inv-loop μ-loop) → let i = c .before .before .before in c .counted .result ≡ cond (leb (start i .args .demand) (this i .low)) (this i .weight) 0
-low-counts c = let w = c .before in c .counted .ensures ∙ (λ t. cond (leb (start (w .before .before) .args .demand) (key-is (w .before) .0 t)) (weight-is w t) 0)
+low-counts c = let w = c .before in c .counted .ensures ∙ (λ t. cond (leb (start (w .before .before) .args .demand) (ends (w .before) .0 t)) (w .weight-at .ensures t) 0)
 
 high-counts : (c : tie.After-counted2 Inv-loop μ-loop)
     → let i = c .before .before .before .before in c .counted2 .result ≡ cond (leb (start i .args .demand) (this i .high)) (this i .weight) 0
-high-counts c = let w = c .before .before in c .counted2 .ensures ∙ (λ t. cond (leb (start (w .before .before) .args .demand) (key-is (w .before) .1 t)) (weight-is w t) 0)
+high-counts c = let w = c .before .before in c .counted2 .ensures ∙ (λ t. cond (leb (start (w .before .before) .args .demand) (ends (w .before) .1 t)) (w .weight-at .ensures t) 0)
 
 -- the sums in this turn
 sums : (c : tie.In-loop Inv-loop μ-loop) (test : ℕ → ℕ → Bool) → let i = c .before .loop .i in
     (weightWhere test (drop i (list c)) ≡ cond (test (this c .low) (this c .high)) (this c .weight) 0 + weightWhere test (drop (i + 1) (list c)))
     × (weightWhere test (list c) ≤ weights (list c))
-sums c test = (next test (list c) (c .before .loop .i) (there c), within test (list c))
+sums c test =
+    (ap (weightWhere test) (records-next (start c .args .n) (c .before .loop .i) (start c .args .s .now) (c .loop-test .taken)), within test (list c))
 
 loop-again : tie.Need-loop-again Inv-loop μ-loop
 loop-again c =
@@ -92,7 +73,7 @@ returns : tie.Need-returns Inv-loop μ-loop
 returns c =
     let s = c .before .before .before in
     let l : List Focal = records (s .args .n) (s .args .s .now) in
-    let e : drop (c .before .loop .i) l ≡ [] = drop-of-length-le l {i = c .before .loop .i} (omega (arith, length-records (s .args .n) (s .args .s .now), c .loop-test .left)) in
+    let e : drop (c .before .loop .i) l ≡ [] = records-end (s .args .n) (c .before .loop .i) (s .args .s .now) (c .loop-test .left) in
     let b : c .before .loop .belief ≡ belief (s .args .demand) l = omega (arith, c .before .loop .inv .1 .0, ap (belief (s .args .demand)) e) in
     let p : c .before .loop .plausibility ≡ plausibility (s .args .demand) l = omega (arith, c .before .loop .inv .1 .1, ap (plausibility (s .args .demand)) e) in
     λ i. record { belief = b i; plausibility = p i }
