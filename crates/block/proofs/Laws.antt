@@ -11,7 +11,7 @@ use lib.ListN.{length}
 use lib.Pow.{pow-mono}
 use Rattle.field.specs.Bits.{fieldAt}
 use Rattle.field.proofs.Field.{field-lt}
-use Rattle.reader.specs.Three.{threeAt}
+use Rattle.reader.specs.Fields.{threeAt}
 use Rattle.reader.specs.declared.Triple.{Triple}
 use Rattle.theory.specs.Limits.{mostHeld}
 use Rattle.theory.specs.Focal.{Focal, focalAt}
@@ -66,7 +66,8 @@ unfolding badZeroBits
 no-bad-bits s a b = simp (a, b)
 
 -- the two cases of a block that is read
-pub block-uncut : (s : List ℕ) → cutShort s ≡ false → blockIn s ≡ record { cut = false; nonzero = badZeroBits s; size = sizeOf (countIn s); component = componentIn s }
+pub block-uncut : (s : List ℕ) → cutShort s ≡ false
+    → blockIn s ≡ record { cut = false; nonzero = badZeroBits s; size = sizeOf (countIn s); component = componentIn s }
 unfolding blockIn
 block-uncut s e = rw e
 

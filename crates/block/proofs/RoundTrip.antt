@@ -98,7 +98,8 @@ fitting-intervals c (suc n) h =
     let l = h n (omega arith) in
     fitting-append (intervalsOf c n) (intervalOf c n) (fitting-intervals c n (λ i p. h i (omega arith))) (l .0, (l .1, (l .2, tt)))
 
-pub fitting-fieldsOf : (c : Component) → c .count < 2 ^ countBits → c .total < 2 ^ totalBits → ((i : ℕ) → i < c .count → FitsFields (focalAt c i)) → Fitting (fieldsOf c)
+pub fitting-fieldsOf : (c : Component) → c .count < 2 ^ countBits → c .total < 2 ^ totalBits
+    → ((i : ℕ) → i < c .count → FitsFields (focalAt c i)) → Fitting (fieldsOf c)
 unfolding fieldsOf Fitting
 fitting-fieldsOf c k t h =
     (k, (lit< tt, (t, fitting-append (intervalsOf c (c .count)) _ (fitting-intervals c (c .count) h) (pow-pos (paddingOf (c .count)), tt))))

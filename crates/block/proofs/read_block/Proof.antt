@@ -8,7 +8,7 @@ use borrow.Author.Needs.{needs}
 use denote.Ref.{now}
 use lib.Dec.{ltb, lit≤}
 use Rattle.field.specs.Bits.{fieldAt}
-use Rattle.reader.specs.Three.{threeAt}
+use Rattle.reader.specs.Fields.{threeAt}
 use Rattle.reader.specs.declared.Triple.{Triple}
 use Rattle.theory.specs.declared.Component.{Component}
 use Rattle.block.specs.Block.{countBits, zeroBits, totalBits, placeOf, sizeOf, countIn, badZeroBits, componentOf, noBlock, blockIn}
@@ -22,8 +22,8 @@ counted : (c : tie.After-three) → c .three .result .first ≡ countIn (now (c 
 counted c = ap (λ (t : Triple). t .first) (c .three .ensures)
 
 -- the answer, of its parts
-built : (s : List ℕ) (h : Triple) (size end padding : ℕ) (c : Component) (b : Bool) → h ≡ threeAt s 0 countBits zeroBits totalBits → size ≡ sizeOf (h .first) → end ≡ placeOf (h .first)
-    → padding ≡ fieldAt s end (8 * size - end) → c ≡ componentOf s (h .first) (h .third) → b ≡ (ltb 0 (h .second) || ltb 0 padding) → Uncut s
+built : (s : List ℕ) (h : Triple) (size end padding : ℕ) (c : Component) (b : Bool) → h ≡ threeAt s 0 countBits zeroBits totalBits
+    → size ≡ sizeOf (h .first) → end ≡ placeOf (h .first) → padding ≡ fieldAt s end (8 * size - end) → c ≡ componentOf s (h .first) (h .third) → b ≡ (ltb 0 (h .second) || ltb 0 padding) → Uncut s
     → _≡_ {A = Block} (record { cut = false; nonzero = b; size = size; component = c }) (blockIn s)
 unfolding badZeroBits
 built s h size end padding c b e z p f g i u = rw (i, g, f, z, p, e) (sym (block-uncut s (is-uncut s u)))
@@ -63,8 +63,8 @@ returns-5 c =
     let size = place .before .before in
     let head = size .before .before .before .before in
     let e = counted head in
-    built (now (head .before .before .before .args .part)) (head .three .result) _ _ (padding .one .result) _ _ (head .three .ensures) (size .block-size .ensures) (place .interval-place .ensures) (padding .one .ensures)
-    (component .read-component .ensures) (c .either-nonzero .ensures) (record { some = omega arith; most = omega arith; there = omega arith })
+    built (now (head .before .before .before .args .part)) (head .three .result) _ _ (padding .one .result) _ _
+    (head .three .ensures) (size .block-size .ensures) (place .interval-place .ensures) (padding .one .ensures) (component .read-component .ensures) (c .either-nonzero .ensures) (record { some = omega arith; most = omega arith; there = omega arith })
 
 pub read-block-spec : {M : Type 1} → statement M
 read-block-spec =
