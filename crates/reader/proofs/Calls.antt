@@ -18,7 +18,8 @@ use prog.Wp.{Heap, Env, Calls, Loops, spotOf}
 use ghost.Atoms.{Atoms, sem}
 use contract.Lifetimes.{Lfts}
 use contract.Monad.{Fun, fact}
-use types.Kit.{Given, Item, ‵, raw, ⋆, nth, put, sel, sel⊢, _⊛_, some, later, Post, Goal, Soaks, runs, lands, frees, !, Seq, Step, step, _$_, _∵_, qed, by, move, use1, use2, split, join, pick, rewrite, fjoin, frame, await, done}
+use types.Kit.{Given, Item, ‵, raw, ⋆, nth, put, sel, sel⊢, _⊛_, some, later, Post, Goal, Soaks, runs, lands, frees, !, Seq, Step, step}
+use types.Kit.{_$_, _∵_, qed, by, move, use1, use2, split, join, pick, rewrite, fjoin, frame, await, done}
 use types.Run.{Opd, Opds, look, init, forget, stop, from, load, of-opd, and-then, no-more, assigns, land, free1}
 use sound.WpLaws.{FmC}
 use denote.RattleType.{RattleType}
