@@ -47,7 +47,7 @@ module _ (c : Component) (j : ℕ) (e : badInterval c j ≡ false) where
   in-range : InRange (focalAt c j)
   in-range =
       let b = neither (ltb (focalAt c j .high) (focalAt c j .low)) (ltb topSpeed (focalAt c j .high)) (alone .0) in
-      record { upright = ltb-false _ _ (b .0); below = ltb-false _ _ (b .1) }
+      record { low-high = ltb-false _ _ (b .0); below = ltb-false _ _ (b .1) }
 
   weight-above : Positive (focalAt c j)
   weight-above = omega (arith, eqb-false (focalAt c j .weight) 0 (alone .1))

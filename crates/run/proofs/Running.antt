@@ -29,14 +29,15 @@ use Rattle.joins.specs.Filling.{Filled, fill}
 use Rattle.joins.specs.Joins.{Operand}
 use Rattle.joins.proofs.Filling.{grown}
 use Rattle.joins.proofs.Answer.{fill-made}
-use Rattle.sheet.specs.declared.Plan.{Plan}
-use Rattle.sheet.specs.Plan.{componentAt, componentsOf, entriesOf}
-use Rattle.sheet.specs.Kept.{Kept}
+use Rattle.plan.specs.declared.Plan.{Plan}
+use Rattle.plan.specs.Plan.{componentAt, componentsOf, entriesOf}
+use Rattle.plan.specs.Valid.{Known, Valid}
+use Rattle.plan.proofs.Entries.{known-component, components-count, component-is}
 use Rattle.run.specs.declared.Stack.{Stack}
 use Rattle.run.specs.declared.Step.{Step}
 use Rattle.run.specs.Stack.{emptyStack, listAt, listsBelow, withList, Pushable, pushed, pushedStore, topStart, topCount, topList, topJoined, spent, stop, Applicable, joinStep, joinStore}
 use Rattle.run.specs.Run.{needed, leafList, walked}
-use Rattle.run.proofs.Entries.{joinCount, counted, named-below, components-count, component-is}
+use Rattle.run.proofs.Entries.{joinCount, counted}
 use Rattle.run.proofs.Stacked.{Stacked, none, more, Topmost, topmost, fits-record, length-leaf}
 use Rattle.run.proofs.Placing.{Stored, on-top, stored-next}
 
@@ -56,7 +57,7 @@ pub record Running (p : Plan) (allowance : ℕ) (store₀ : List ℕ) (rest : Li
   pub height : (st .depth ≤ held) × (held ≤ mostComponents * st .depth)
   -- what is left: components below n, joins that find two lists, as many entries as leave one list
   pub unnamed : held + length (named rest) ≡ p .count
-  pub names : Every (λ j. j < p .count) (named rest)
+  pub known : Every (Known (p .count)) rest
   pub balance : st .depth + length (named rest) ≡ joinCount rest + 1
   pub two : joinsFindTwo rest (st .depth) ≡ true
   -- the room: joined lists stay where they are
@@ -64,7 +65,10 @@ pub record Running (p : Plan) (allowance : ℕ) (store₀ : List ℕ) (rest : Li
   pub allowed : st .pairs ≤ allowance
   pub walks : walkOn p allowance rest (listsBelow store st (st .depth)) (st .pairs) ≡ walked p allowance
 
-module _ {p : Plan} (K : Kept p) {allowance : ℕ} where
+every-first : {P : Entry → Type 0} {e : Entry} {es : List Entry} → Every P (e ∷ es) → P e × Every P es
+every-first (Every.more h hs) = (h, hs)
+
+module _ {p : Plan} (K : Valid p) {allowance : ℕ} where
   pub starting : (store : List ℕ) → Running p allowance store (entriesOf p) store emptyStack
   unfolding walked
   starting store =
@@ -76,7 +80,7 @@ module _ {p : Plan} (K : Kept p) {allowance : ℕ} where
         lists = none;
         height = omega arith;
         unnamed = omega arith;
-        names = named-below (p .count) (entriesOf p) (K .namedOnce);
+        known = K .known;
         balance = omega arith;
         two = K .findTwo;
         room = omega (arith, K .least, K .most);
@@ -100,11 +104,8 @@ module _ {p : Plan} (K : Kept p) {allowance : ℕ} where
     abbrev c : Component
     c = componentAt p j
 
-    named-first : {k : ℕ} {ks : List ℕ} → Every (λ i. i < p .count) (k ∷ ks) → (k < p .count) × Every (λ i. i < p .count) ks
-    named-first (Every.more h hs) = (h, hs)
-
     pub component-below : j < p .count
-    component-below = named-first (R .names) .0
+    component-below = known-component (every-first (R .known) .0)
 
     of-component : {P : Component → Type 0} → Every P (componentsOf p) → P c
     of-component {P} h = subst P (component-is p j component-below) (index-of-every noComponent h j (omega (arith, component-below, components-count p)))
@@ -135,7 +136,7 @@ module _ {p : Plan} (K : Kept p) {allowance : ℕ} where
           lists = rw top (more {k = suc (R .held)} fits (R .lists) (omega arith));
           height = omega (arith, R .height);
           unnamed = omega (arith, R .unnamed);
-          names = named-first (R .names) .1;
+          known = every-first (R .known) .1;
           balance = omega (arith, R .balance);
           two = rw (add-one (st .depth)) (R .two);
           room = omega (arith, R .room, short);
@@ -223,7 +224,7 @@ module _ {p : Plan} (K : Kept p) {allowance : ℕ} where
           lists = rw top (more fits (T .stacked) (T .together));
           height = omega (arith, R .height, R .unnamed, K .most, two-there);
           unnamed = R .unnamed;
-          names = R .names;
+          known = every-first (R .known) .1;
           balance = omega (arith, R .balance, two-there);
           two = finds-two (st .depth) (R .two) .1;
           room = omega (arith, R .room);

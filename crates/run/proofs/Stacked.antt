@@ -3,16 +3,16 @@ use Prim.Native.Nat.{ℕ, _+_, _^_, _≤_, _<_}
 use mathlib.Core.Path.{_≡_}
 use mathlib.Core.List.{List, [], _∷_}
 use native.Mathlib.Omega.{arith}
-use lib.ListN.{length, length-map}
-use Rattle.theory.specs.Sums.{countFrom, Every}
-use Rattle.theory.specs.Focal.{Focal, focalAt, masses, weights}
+use lib.ListN.{length}
+use Rattle.theory.specs.Sums.{Every}
+use Rattle.theory.specs.Focal.{Focal, masses, weights}
 use Rattle.theory.specs.Lists.{collect, Fits}
 use Rattle.theory.specs.Limits.{mostComponents}
 use Rattle.theory.specs.declared.Component.{Component}
 use Rattle.theory.proofs.Every.{every-map}
-use Rattle.theory.proofs.Sums.{length-count}
 use Rattle.theory.proofs.Lists.{length-collect}
 use Rattle.theory.proofs.Totals.{fits-speeds, fits-weights}
+use Rattle.plan.proofs.Entries.{listed-count}
 use Rattle.records.specs.Records.{Under, speedLimit}
 
 -- the lists of a stack, over k components together
@@ -40,4 +40,4 @@ fits-record f h = (every-map (λ x r. (omega (arith, r .0), omega (arith, r .1))
 
 -- a component's list is no longer than what the sheet lists
 pub length-leaf : (c : Component) → length (collect (masses c)) ≤ c .count
-length-leaf c = omega (arith, length-collect (masses c), length-map (countFrom 0 (c .count)) (focalAt c), length-count 0 (c .count))
+length-leaf c = omega (arith, length-collect (masses c), listed-count c)

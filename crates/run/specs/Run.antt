@@ -7,8 +7,8 @@ use Rattle.theory.specs.Lists.{collect, noComponent}
 use Rattle.theory.specs.Evaluation.{Evaluation, completed, refused, walkLists}
 use Rattle.theory.specs.Limits.{storeBytes}
 use Rattle.records.specs.Store.{settled}
-use Rattle.sheet.specs.declared.Plan.{Plan}
-use Rattle.sheet.specs.Plan.{componentsOf, entriesOf}
+use Rattle.plan.specs.declared.Plan.{Plan}
+use Rattle.plan.specs.Plan.{componentsOf, entriesOf}
 use Rattle.run.specs.declared.Ran.{Ran}
 
 -- the bytes of the store (document 01: the list buffer) that a plan of n components needs

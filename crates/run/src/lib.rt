@@ -3,12 +3,11 @@ ghost use mathlib.Core.Path.{_≡_};
 ghost use Prim.Native.Nat.{_≤_, _<_};
 ghost use lib.ListN.{length};
 ghost use Rattle.theory.specs.Limits.{mostComponents, mostIntervals, storeBytes};
-ghost use Rattle.sheet.specs.Plan.{entryOf};
-ghost use Rattle.sheet.specs.Kept.{Kept};
+ghost use Rattle.plan.specs.Valid.{Valid};
 ghost use Rattle.run.specs.Stack.{emptyStack, withList, Pushable, pushed, pushedStore, Applicable, joinStep, joinStore};
 ghost use Rattle.run.specs.Run.{storeFor, needed, walked, ranOf, storeOf};
 use joins::Joined;
-use sheet::Plan;
+use plan::Plan;
 use theory::Component;
 use theory::Entry;
 use theory::Join;
@@ -41,18 +40,6 @@ pub fn needed(n: usize) -> usize
     ensures { λ r. ⌜ r ≡ storeFor n ⌝ }
 {
     theory::STORE_BYTES
-}
-
-// What a code stands for.
-fn entry_of(code: u8) -> Entry
-    ensures { λ r. ⌜ r ≡ entryOf code ⌝ }
-{
-    match code {
-        8 => Entry::Join(Join::Series),
-        9 => Entry::Join(Join::Shared),
-        10 => Entry::Join(Join::Spare),
-        _ => Entry::Component(code as usize),
-    }
 }
 
 fn empty_stack() -> Stack
@@ -128,18 +115,18 @@ fn apply(op: Join, stack: Stack, store: &mut [u8], allowance: u32) -> Step
 // The entries of a plan, one after the other. After a refusal at a join the bytes that the plan needs are zero; at the end the one list
 // that is left stands at the front, and the rest of them is zero. Later bytes stay as they were.
 pub fn run_plan(p: Plan, allowance: u32, store: &mut [u8]) -> Ran
-    requires { ⌜ Kept p ⌝ }
+    requires { ⌜ Valid p ⌝ }
     requires { ⌜ needed p ≤ length (now store) ⌝ }
     ensures { λ r. ⌜ r ≡ ranOf (walked p allowance) ⌝ }
     ensures { λ _. ⌜ now (store .exit) ≡ storeOf (needed p) (walked p allowance) (now (store .entry)) ⌝ }
 {
     let n = p.count;
-    let m = 2 * n - 1;
+    let m = plan::entry_count(n);
     let size = needed(n);
     let mut stack = empty_stack();
     let mut i: usize = 0;
     while i < m {
-        let entry = entry_of(p.entries[i]);
+        let entry = plan::entry_of(p.entries[i]);
         match entry {
             Entry::Component(j) => {
                 let c = p.components[j];

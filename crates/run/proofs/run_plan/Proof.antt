@@ -10,13 +10,13 @@ use Rattle.theory.specs.Limits.{entryCount}
 use Rattle.theory.specs.declared.Entry.{Entry}
 use Rattle.theory.specs.declared.Entry.the-variants.{Component as component, Join as join}
 use Rattle.records.proofs.Records.{length-records}
-use Rattle.sheet.specs.declared.Plan.{Plan}
-use Rattle.sheet.specs.Plan.{entriesOf}
-use Rattle.sheet.specs.Kept.{Kept}
+use Rattle.plan.specs.declared.Plan.{Plan}
+use Rattle.plan.specs.Plan.{entriesOf}
+use Rattle.plan.proofs.Entries.{entries-count}
 use Rattle.run.specs.declared.Stack.{Stack}
 use Rattle.run.specs.Stack.{listAt}
 use Rattle.run.specs.Run.{needed}
-use Rattle.run.proofs.Entries.{entries-count, entries-from}
+use Rattle.run.proofs.Entries.{entries-from}
 use Rattle.run.proofs.Placing.{clears, fills}
 use Rattle.run.proofs.Running.{Running, starting, finished, in-region, component-below, pushable, push-next, applicable, join-out, join-later}
 use borrow.Author.Needs.{needs}
@@ -35,7 +35,7 @@ module _ (c : tie.After-entry-of Inv-loop μ-loop) where
   turn = c .before .before
 
   abbrev start : tie.Start Inv-loop μ-loop
-  start = turn .before .before .before .before .before
+  start = turn .before .before .before .before .before .before
 
   abbrev p : Plan
   p = start .args .t1
@@ -44,12 +44,12 @@ module _ (c : tie.After-entry-of Inv-loop μ-loop) where
       → Running p (start .args .allowance) (start .args .store .now) (e ∷ drop (suc (turn .before .loop .i)) (entriesOf p)) (turn .before .loop .store) (turn .before .loop .stack)
   running-at {e} q =
       let i : ℕ = turn .before .loop .i in
-      let d : drop i (entriesOf p) ≡ e ∷ drop (suc i) (entriesOf p) = entries-from p i (turn .loop-test .taken) ∙ ap (λ (x : Entry). x ∷ drop (suc i) (entriesOf p)) (sym (c .entry-of .ensures) ∙ q) in
+      let d : drop i (entriesOf p) ≡ e ∷ drop (suc i) (entriesOf p) = entries-from p i (omega (arith, turn .before .before .before .before .entry-count .ensures)) ∙ ap (λ (x : Entry). x ∷ drop (suc i) (entriesOf p)) (sym (c .entry-of .ensures) ∙ q) in
       rw d at (turn .before .loop .inv .1)
 
 loop-holds : tie.Need-loop-holds Inv-loop μ-loop
 loop-holds c =
-    let s = c .before .before .before in
+    let s = c .before .before .before .before in
     (omega arith, rw (c .empty-stack .ensures) (starting (s .pre .0) (s .args .store .now)))
 
 component-there : (c : tie.After-known-told Inv-loop μ-loop) → c .before .entry .given .0 .0 < p (c .before .before .before) .count
@@ -72,9 +72,6 @@ apply-requires c κs =
     let k = c .before .before in
     let e = k .before .before in
     applicable (start e .pre .0) (start e .pre .1) (running-at e (k .entry2 .given .1))
-
-clear-requires : tie.Need-clear-requires Inv-loop μ-loop
-clear-requires c κs = search needs
 
 returns : tie.Need-returns Inv-loop μ-loop
 returns c =
@@ -100,23 +97,23 @@ loop-again c =
     )
 
 -- behind the last entry
-ended : (c : tie.After-loop Inv-loop μ-loop) → let s = c .before .before .before .before .before in
+ended : (c : tie.After-loop Inv-loop μ-loop) → let s = c .before .before .before .before .before .before in
     Running (s .args .t1) (s .args .allowance) (s .args .store .now) [] (c .before .loop .store) (c .before .loop .stack)
 ended c =
-    let p = c .before .before .before .before .before .args .t1 in
-    rw (drop-of-length-le (entriesOf p) {i = c .before .loop .i} (omega (arith, entries-count p, c .loop-test .left))) at (c .before .loop .inv .1)
+    let p = c .before .before .before .before .before .before .args .t1 in
+    rw (drop-of-length-le (entriesOf p) {i = c .before .loop .i} (omega (arith, entries-count p, c .before .before .before .before .entry-count .ensures))) at (c .before .loop .inv .1)
 
 settle-requires : tie.Need-settle-requires Inv-loop μ-loop
 settle-requires c κs =
     let b = c .before .before .before .before in
-    let s = b .before .before .before .before in
+    let s = b .before .before .before .before .before in
     let R = ended (c .before .before .before) in
     (omega (arith, R .stored .apart 0 (omega (arith, finished (s .pre .0) R .0)), in-region (s .pre .0) R), omega (arith, R .stored .same-length))
 
 returns-2 : tie.Need-returns-2 Inv-loop μ-loop
 returns-2 c =
     let b = c .before .before .before .before .before .before .before in
-    let s = b .before .before .before .before in
+    let s = b .before .before .before .before .before in
     let R = ended (c .before .before .before .before .before .before) in
     let st = b .loop .stack in
     let w = finished (s .pre .0) R .1 in
@@ -126,7 +123,7 @@ returns-2 c =
 pub run-plan-spec : {M : Type 1} → statement M
 run-plan-spec =
     tie.close
-    (tie.spec Inv-loop μ-loop (λ c. search needs) (λ c. search needs) (λ c κs. search needs) (λ c κs. search needs) loop-holds
-    (λ c. search needs) (λ c κs. search needs) (λ c. search needs) mul-c element-copy-out-c push-requires (λ c. search needs)
-    apply-requires clear-requires (λ c. search needs) returns (λ c. search needs) (λ c. search needs) loop-again
-    (λ c. search needs) (λ c. search needs) settle-requires (λ c. search needs) returns-2)
+    (tie.spec Inv-loop μ-loop (λ c κs. search needs) (λ c κs. search needs) (λ c κs. search needs) loop-holds (λ c. search needs)
+    (λ c κs. search needs) (λ c. search needs) mul-c element-copy-out-c push-requires (λ c. search needs) apply-requires (λ c κs. search needs)
+    (λ c. search needs) returns (λ c. search needs) (λ c. search needs) loop-again (λ c. search needs) (λ c. search needs) settle-requires
+    (λ c. search needs) returns-2)
