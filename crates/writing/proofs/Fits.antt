@@ -22,7 +22,7 @@ use Rattle.plan.proofs.Entries.{known-fits}
 use Rattle.writing.proofs.Sizes.{end-most}
 use Rattle.plan.proofs.Tests.{every-below}
 
--- one weight of a sum
+-- One weight of a sum.
 weight-within : (c : Component) (k n i : ℕ) → k ≤ i → i < k + n → getD (c .weights) i 0 ≤ weights (map (focalAt c) (countFrom k n))
 weight-within c k zero i a b = absurd (omega arith)
 weight-within c k (suc n) i a b = elim (ℕ-discrete i k) [
@@ -39,7 +39,7 @@ blocks-fit (more {x} {xs} k ks) (more t ts) (more r rs) (more b bs) =
     fitting-append (fieldsOf c) (forEach xs fieldsOf)
     (fitting-fieldsOf c (omega (arith, k)) (omega (arith, t)) (λ i h.
     let f = every-below (focalAt c) 0 (c .count) i r (omega arith) (omega arith) in
-    (omega (arith, f .upright, f .below), omega (arith, f .below), omega (arith, weight-within c 0 (c .count) i (omega arith) (omega arith), b, t))))
+    (omega (arith, f .low-high, f .below), omega (arith, f .below), omega (arith, weight-within c 0 (c .count) i (omega arith) (omega arith), b, t))))
     (blocks-fit ks ts rs bs)
 
 codes-fit : (n : ℕ) (codes : List ℕ) → n ≤ mostComponents → Every (Known n) (map entryOf codes) → Fitting (map (bits 4) codes)
