@@ -7,7 +7,7 @@ use Rattle.theory.specs.declared.Component.{Component}
 use Rattle.plan.specs.Rules.{badTotal, badIntervals, badSum, flawsOf, flawsIn, eitherFlaws}
 use Rattle.plan.proofs.Tests.{any-one-more}
 
--- one component more
+-- One component more.
 pub flaws-next : (g : ℕ → Component) (i : ℕ)
     → eitherFlaws (flawsIn (map g (countFrom 0 i))) (flawsOf (g i)) ≡ flawsIn (map g (countFrom 0 (i + 1)))
 flaws-next g i = rw (any-one-more badTotal g i, any-one-more badIntervals g i, any-one-more badSum g i)

@@ -29,11 +29,11 @@ use Rattle.plan.specs.Valid.{Known, names, joins}
 use Rattle.plan.proofs.Loops.{from, from-next, from-end}
 use Rattle.plan.proofs.Tests.{any-map}
 
--- a code that is no join's names a component
+-- A code that is no join's names a component.
 pub code-component : (code : ℕ) → (code ≡ 8 → ⊥) → (code ≡ 9 → ⊥) → (code ≡ 10 → ⊥) → entryOf code ≡ component code
 code-component code a b d = rw (ne-eqb code 8 a, ne-eqb code 9 b, ne-eqb code 10 d)
 
--- number 9 in document 01's words
+-- Number 9 in document 01's words.
 pub bad-code : (n code : ℕ) → badEntry n (entryOf code) ≡ (eqb code 6 || eqb code 7 || ltb 10 code || ltb code 6 && leb n code)
 bad-code n code = elim (ℕ-discrete code 8) [
   | yes a ↦ rw a
@@ -58,7 +58,7 @@ bad-code n code = elim (ℕ-discrete code 8) [
       ]
     ]
 
--- an entry that keeps number 9 is a component below n or a join
+-- An entry that keeps number 9 is a component below n or a join.
 pub known-entry : (n : ℕ) (e : Entry) → badEntry n e ≡ false → Known n e
 known-entry n (component i) e = names (leb-false n i (neither (leb mostComponents i) (leb n i) e .1))
 known-entry n (join op) e = joins
@@ -66,7 +66,7 @@ known-entry n (join op) e = joins
 pub known-component : {n i : ℕ} → Known n (component i) → i < n
 known-component (names h) = h
 
--- and its code fits four bits
+-- And its code fits four bits.
 pub known-fits : (n code : ℕ) → n ≤ mostComponents → Known n (entryOf code) → code < 16
 known-fits n code l k = elim (ℕ-discrete code 8) [
   | yes a ↦ omega arith
@@ -79,7 +79,7 @@ known-fits n code l k = elim (ℕ-discrete code 8) [
   ]
 ]
 
--- places of lists that count
+-- Places of lists that count.
 getD-count : (k n i : ℕ) → i < n → getD (countFrom k n) i 0 ≡ k + i
 getD-count k zero i h = absurd (omega arith)
 getD-count k (suc n) zero h = omega arith
@@ -90,7 +90,7 @@ getD-map f [] i a b h = absurd (omega arith)
 getD-map f (x ∷ xs) zero a b h = refl
 getD-map f (x ∷ xs) (suc i) a b h = getD-map f xs i a b (omega arith)
 
--- the list of f of each number below n
+-- The list of f of each number below n.
 module _ {A : Type 0} (f : ℕ → A) (n : ℕ) where
   length-below : length (map f (countFrom 0 n)) ≡ n
   length-below = length-map (countFrom 0 n) f ∙ length-count 0 n
@@ -102,7 +102,7 @@ module _ {A : Type 0} (f : ℕ → A) (n : ℕ) where
 pub listed-count : (c : Component) → length (listed c) ≡ c .count
 listed-count c = length-below (focalAt c) (c .count)
 
--- the places of a plan in use
+-- The places of a plan in use.
 module _ (p : Plan) where
   pub components-count : length (componentsOf p) ≡ p .count
   components-count = length-below (componentAt p) (p .count)
@@ -122,45 +122,45 @@ module _ (p : Plan) where
   pub entry-is : (i : ℕ) → i < entryCount (p .count) → getD (entriesOf p) i (component 0) ≡ entryOf (getD (p .entries) i 0)
   entry-is i h = getD-map entryOf (codesOf p) i 0 (component 0) (omega (arith, codes-count)) ∙ ap entryOf (code-is i h)
 
--- a test of the entries, by their places
+-- A test of the entries, by their places.
 pub any-entry : (f : Entry → Bool) (s : List ℕ) (n : ℕ) → anyOf f (structureIn s n) ≡ anyOf (λ j. f (entryOf (getD s j 0))) (countFrom 0 (entryCount n))
 any-entry f s n =
     any-map f entryOf (map (λ j. getD s j 0) (countFrom 0 (entryCount n)))
     ∙ any-map (λ code. f (entryOf code)) (λ j. getD s j 0) (countFrom 0 (entryCount n))
 
--- the entries from place j on, of m
-abbrev pub left : List ℕ → ℕ → ℕ → List Entry
-left s j m = map entryOf (map (λ k. getD s k 0) (from j m))
+-- The entries from place j on, of m.
+abbrev pub entriesFrom : List ℕ → ℕ → ℕ → List Entry
+entriesFrom s j m = map entryOf (map (λ k. getD s k 0) (from j m))
 
-pub left-next : (s : List ℕ) (j m : ℕ) → j < m → left s j m ≡ entryOf (getD s j 0) ∷ left s (j + 1) m
-left-next s j m h = rw (from-next j m h)
+pub entries-next : (s : List ℕ) (j m : ℕ) → j < m → entriesFrom s j m ≡ entryOf (getD s j 0) ∷ entriesFrom s (j + 1) m
+entries-next s j m h = rw (from-next j m h)
 
-pub left-end : (s : List ℕ) (j m : ℕ) → m ≤ j → left s j m ≡ []
-left-end s j m h = rw (from-end j m h)
+pub entries-end : (s : List ℕ) (j m : ℕ) → m ≤ j → entriesFrom s j m ≡ []
+entries-end s j m h = rw (from-end j m h)
 
--- what one entry adds to the names
+-- What one entry adds to the names.
 pub names-next : (i : ℕ) (e : Entry) (es : List Entry) → countOf i (named (e ∷ es)) ≡ countOf i (named (e ∷ [])) + countOf i (named es)
 names-next i (component k) es = omega arith
 names-next i (join op) es = omega arith
 
--- what the entry at place j of m leaves of the search for a join that finds fewer than two of h lists
+-- What the entry at place j of m leaves of the search for a join that finds fewer than two of h lists.
 module _ (s : List ℕ) (m j h : ℕ) (l : j < m) where
-  pub find-component : {i : ℕ} → entryOf (getD s j 0) ≡ component i → joinsFindTwo (left s j m) h ≡ joinsFindTwo (left s (j + 1) m) (h + 1)
-  find-component e = rw (left-next s j m l, e, add-one h)
+  pub find-component : {i : ℕ} → entryOf (getD s j 0) ≡ component i → joinsFindTwo (entriesFrom s j m) h ≡ joinsFindTwo (entriesFrom s (j + 1) m) (h + 1)
+  find-component e = rw (entries-next s j m l, e, add-one h)
 
   module _ {op : Join} (e : entryOf (getD s j 0) ≡ join op) where
-    pub find-few : h < 2 → joinsFindTwo (left s j m) h ≡ false
-    find-few a = rw (left-next s j m l, e) (go h a)
+    pub find-few : h < 2 → joinsFindTwo (entriesFrom s j m) h ≡ false
+    find-few a = rw (entries-next s j m l, e) (go h a)
       where
-        go : (k : ℕ) → k < 2 → joinsFindTwo (join op ∷ left s (j + 1) m) k ≡ false
+        go : (k : ℕ) → k < 2 → joinsFindTwo (join op ∷ entriesFrom s (j + 1) m) k ≡ false
         go zero a = refl
         go (suc zero) a = refl
         go (suc (suc k)) a = absurd (omega arith)
 
-    pub find-two : 2 ≤ h → joinsFindTwo (left s j m) h ≡ joinsFindTwo (left s (j + 1) m) (h - 1)
-    find-two a = rw (left-next s j m l, e) (go h a)
+    pub find-two : 2 ≤ h → joinsFindTwo (entriesFrom s j m) h ≡ joinsFindTwo (entriesFrom s (j + 1) m) (h - 1)
+    find-two a = rw (entries-next s j m l, e) (go h a)
       where
-        go : (k : ℕ) → 2 ≤ k → joinsFindTwo (join op ∷ left s (j + 1) m) k ≡ joinsFindTwo (left s (j + 1) m) (k - 1)
+        go : (k : ℕ) → 2 ≤ k → joinsFindTwo (join op ∷ entriesFrom s (j + 1) m) k ≡ joinsFindTwo (entriesFrom s (j + 1) m) (k - 1)
         go zero a = absurd (omega arith)
         go (suc zero) a = absurd (omega arith)
         go (suc (suc k)) a =

@@ -8,7 +8,7 @@ use native.Mathlib.Omega.{arith}
 use Rattle.theory.specs.Sums.{countFrom}
 use Rattle.plan.specs.Tests.{anyOf}
 
--- the numbers from i on that are below n
+-- The numbers from i on that are below n.
 abbrev pub from : ℕ → ℕ → List ℕ
 from i n = countFrom i (n - i)
 
@@ -30,17 +30,17 @@ from-end i n h =
 -- A search for a number below n that passes a test: the first i did not.
 pub record Searched (f : ℕ → Bool) (n i : ℕ) : Type 0 where
   pub below : i ≤ n
-  pub left : anyOf f (from i n) ≡ anyOf f (countFrom 0 n)
+  pub same : anyOf f (from i n) ≡ anyOf f (countFrom 0 n)
 
 pub search-starts : (f : ℕ → Bool) (n : ℕ) → Searched f n 0
-search-starts f n = record { below = omega arith; left = ap (anyOf f) (from-zero n) }
+search-starts f n = record { below = omega arith; same = ap (anyOf f) (from-zero n) }
 
 module _ {f : ℕ → Bool} {n i : ℕ} where
   pub search-hits : Searched f n i → i < n → f i ≡ true → true ≡ anyOf f (countFrom 0 n)
-  search-hits s h e = sym (rw (from-next i n h, e)) ∙ s .left
+  search-hits s h e = sym (rw (from-next i n h, e)) ∙ s .same
 
   pub search-goes-on : Searched f n i → i < n → f i ≡ false → Searched f n (i + 1)
-  search-goes-on s h e = record { below = omega arith; left = sym (rw (from-next i n h, e)) ∙ s .left }
+  search-goes-on s h e = record { below = omega arith; same = sym (rw (from-next i n h, e)) ∙ s .same }
 
   pub search-ends : Searched f n i → n ≤ i → false ≡ anyOf f (countFrom 0 n)
-  search-ends s h = sym (rw (from-end i n h)) ∙ s .left
+  search-ends s h = sym (rw (from-end i n h)) ∙ s .same

@@ -8,7 +8,7 @@ use native.Mathlib.Omega.{arith}
 use Rattle.theory.specs.Sums.{Every, none, more}
 use Rattle.theory.proofs.Every.{every-map}
 use Rattle.plan.specs.Tests.{Test, firstBroken, outside, anyOf, Unbroken, First, here, later}
-use Rattle.plan.proofs.Tests.{each, within}
+use Rattle.plan.proofs.Tests.{every-failed, within}
 
 pub none-broken : {ts : List Test} → Every Unbroken ts → firstBroken ts ≡ 0
 none-broken none = refl
@@ -45,7 +45,7 @@ at-most n (more {x = t} {xs = ts} p r) = go (t .broken) refl (at-most n r)
 -- Tests whose numbers are 1 to n, which is seen by a test of all.
 module _ (n : ℕ) (ts : List Test) (e : anyOf (λ t. outside 1 n (t .number)) ts ≡ false) where
   numbers : Every (λ t. (1 ≤ t .number) × (t .number ≤ n)) ts
-  numbers = each (λ t. outside 1 n (t .number)) ts (λ t h. within 1 n (t .number) h) e
+  numbers = every-failed (λ t. outside 1 n (t .number)) ts (λ t h. within 1 n (t .number) h) e
 
   pub no-number : firstBroken ts ≡ 0 → Every Unbroken ts
   no-number = all-unbroken ts (every-map (λ t h. h .0) numbers)
@@ -59,7 +59,7 @@ module _ (n : ℕ) (ts : List Test) (e : anyOf (λ t. outside 1 n (t .number)) t
 pub refused-by : (ts : List Test) (k : ℕ) → 0 < k → (firstBroken ts ≡ k) ↔ First ts k
 refused-by ts k h = (is-first ts k h, first-is)
 
--- a number in the first list decides; where there is none, the second list does
+-- A number in the first list decides; where there is none, the second list does.
 pub first-found : (ts us : List Test) → (firstBroken ts ≡ 0 → ⊥) → firstBroken (ts ++ us) ≡ firstBroken ts
 first-found [] us h = absurd (h refl)
 first-found (t ∷ ts) us h = go (t .broken) h (first-found ts us)

@@ -17,10 +17,10 @@ module _ {A : Type 0} where
   pub any-none : (f : A → Bool) (x : A) (xs : List A) → anyOf f (x ∷ xs) ≡ false → (f x ≡ false) × (anyOf f xs ≡ false)
   any-none f x xs = neither (f x) (anyOf f xs)
 
-  -- what the failed test shows of each
-  pub each : {P : A → Type 0} (f : A → Bool) (l : List A) → ((x : A) → f x ≡ false → P x) → anyOf f l ≡ false → Every P l
-  each f [] h e = none
-  each f (x ∷ l) h e = let s = any-none f x l e in more (h x (s .0)) (each f l h (s .1))
+  -- What the failed test shows of each.
+  pub every-failed : {P : A → Type 0} (f : A → Bool) (l : List A) → ((x : A) → f x ≡ false → P x) → anyOf f l ≡ false → Every P l
+  every-failed f [] h e = none
+  every-failed f (x ∷ l) h e = let s = any-none f x l e in more (h x (s .0)) (every-failed f l h (s .1))
 
 module _ {A B : Type 0} where
   pub any-map : (f : B → Bool) (g : A → B) (l : List A) → anyOf f (map g l) ≡ anyOf (λ x. f (g x)) l
@@ -31,7 +31,7 @@ module _ {A B : Type 0} where
   every-map g none = none
   every-map g (more h hs) = more h (every-map g hs)
 
--- a test of each number below n
+-- A test of each number below n.
 pub any-below : (f : ℕ → Bool) (k n i : ℕ) → anyOf f (countFrom k n) ≡ false → k ≤ i → i < k + n → f i ≡ false
 any-below f k zero i e a b = absurd (omega arith)
 any-below f k (suc n) i e a b =
@@ -64,7 +64,7 @@ every-below {A} {P} g k (suc n) i (more h hs) a b = elim (ℕ-discrete i k) [
   | no e ↦ every-below g (suc k) n i hs (omega arith) (omega arith)
 ]
 
--- one number more
+-- One number more.
 pub any-more : (f : ℕ → Bool) (k n : ℕ) → anyOf f (countFrom k (suc n)) ≡ (anyOf f (countFrom k n) || f (k + n))
 any-more f k zero = rw (add-zero, or-false)
 any-more f k (suc n) = rw (any-more f (suc k) n, or-assoc, add-suc, suc-add)

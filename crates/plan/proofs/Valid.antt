@@ -19,7 +19,7 @@ use Rattle.plan.specs.Tests.{firstBroken, anyOf, Unbroken}
 use Rattle.plan.specs.Plan.{componentAt, componentsOf, entriesOf}
 use Rattle.plan.specs.Rules.{rule3, badCount, rule4, badTotal, badAlone, badInterval, badIntervals, badSum, badEntry, rule9, badNaming, rule10, rule11, rules, Counted, Sized}
 use Rattle.plan.specs.Valid.{Known, names, joins, Valid}
-use Rattle.plan.proofs.Tests.{each, every-map, any-below, any-map, within}
+use Rattle.plan.proofs.Tests.{every-failed, every-map, any-below, any-map, within}
 use Rattle.plan.proofs.Numbers.{no-number}
 use Rattle.plan.proofs.Entries.{known-entry, entries-count}
 
@@ -28,7 +28,7 @@ counted n e =
     let w = within 1 mostComponents n e in
     record { least = w .0; most = w .1 }
 
--- 3 and 4 are kept, so everything that a plan says to use is there
+-- 3 and 4 are kept, so everything that a plan says to use is there.
 pub sized : (p : Plan) → rule3 (p .count) ≡ false → rule4 (componentsOf p) ≡ false → Sized p
 unfolding rule4
 sized p e₃ e₄ =
@@ -39,7 +39,7 @@ sized p e₃ e₄ =
           within 1 mostHeld ((componentAt p i) .count) (any-below (λ j. badCount (componentAt p j)) 0 (p .count) i f (omega arith) (omega arith)) .1;
     }
 
--- rule 7, of an interval
+-- Rule 7, of an interval.
 module _ (c : Component) (j : ℕ) (e : badInterval c j ≡ false) where
   alone : (ltb (focalAt c j .high) (focalAt c j .low) || ltb topSpeed (focalAt c j .high) ≡ false) × (eqb (focalAt c j .weight) 0 ≡ false)
   alone = neither _ _ (neither (badAlone (focalAt c j)) _ e .0)
@@ -52,7 +52,7 @@ module _ (c : Component) (j : ℕ) (e : badInterval c j ≡ false) where
   weight-above : Positive (focalAt c j)
   weight-above = omega (arith, eqb-false (focalAt c j .weight) 0 (alone .1))
 
--- rules 9 and 10: no entry names a component that is not there, and each that is there is named once
+-- Rules 9 and 10: no entry names a component that is not there, and each that is there is named once.
 none-above : {n : ℕ} {es : List Entry} (i : ℕ) → n ≤ i → Every (Known n) es → countOf i (named es) ≡ 0
 none-above i h none = refl
 none-above i h (more (names {i = k} l) r) = rw (ne-eqb i k (omega arith)) (omega (arith, none-above i h r))
@@ -75,15 +75,15 @@ valid p e₃ e₄ e = go (no-number 11 (rules p) refl e)
     go (more e₆ (more e₇ (more e₈ (more e₉ (more e₁₀ (more e₁₁ none)))))) =
         let cs = componentsOf p in
         let es = entriesOf p in
-        let known : Every (Known (p .count)) es = each (badEntry (p .count)) es (known-entry (p .count)) e₉ in
+        let known : Every (Known (p .count)) es = every-failed (badEntry (p .count)) es (known-entry (p .count)) e₉ in
         record {
           least = n .least;
           most = n .most;
-          counts = each badCount cs (λ c. within 1 mostHeld (c .count)) e₄;
-          totals = each badTotal cs (λ c. within 1 mostTotal (c .total)) e₆;
-          inRange = each badIntervals cs (λ c h. every-map (focalAt c) (each (badInterval c) (countFrom 0 (c .count)) (in-range c) h)) e₇;
-          positive = each badIntervals cs (λ c h. every-map (focalAt c) (each (badInterval c) (countFrom 0 (c .count)) (weight-above c) h)) e₇;
-          balanced = each badSum cs (λ c h. eqb-true _ _ (not-false _ h)) e₈;
+          counts = every-failed badCount cs (λ c. within 1 mostHeld (c .count)) e₄;
+          totals = every-failed badTotal cs (λ c. within 1 mostTotal (c .total)) e₆;
+          inRange = every-failed badIntervals cs (λ c h. every-map (focalAt c) (every-failed (badInterval c) (countFrom 0 (c .count)) (in-range c) h)) e₇;
+          positive = every-failed badIntervals cs (λ c h. every-map (focalAt c) (every-failed (badInterval c) (countFrom 0 (c .count)) (weight-above c) h)) e₇;
+          balanced = every-failed badSum cs (λ c h. eqb-true _ _ (not-false _ h)) e₈;
           known = known;
           namedOnce = named-once (p .count) es known e₁₀;
           findTwo = not-false _ e₁₁;

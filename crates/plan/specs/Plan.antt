@@ -16,23 +16,23 @@ use Rattle.block.specs.Rows.{row}
 use Rattle.block.specs.Block.{zeroComponent, cleaned}
 use Rattle.plan.specs.declared.Plan.{Plan}
 
--- component i of a plan
+-- Component i of a plan.
 abbrev pub componentAt : Plan → ℕ → Component
 componentAt p i = getD (p .components) i noComponent
 
--- its components: the places in use
+-- The components of a plan: the places in use.
 abbrev pub componentsOf : Plan → List Component
 componentsOf p = map (componentAt p) (countFrom 0 (p .count))
 
--- the codes of a structure of n components: the places in use
+-- The codes of a structure of n components: the places in use.
 abbrev pub codesIn : List ℕ → ℕ → List ℕ
 codesIn entries n = map (λ j. getD entries j 0) (countFrom 0 (entryCount n))
 
--- the codes of a plan
+-- The codes of a plan.
 abbrev pub codesOf : Plan → List ℕ
 codesOf p = codesIn (p .entries) (p .count)
 
--- the codes of the joins
+-- The codes of the joins.
 abbrev pub seriesCode : ℕ
 seriesCode = 8
 
@@ -47,15 +47,15 @@ abbrev pub entryOf : ℕ → Entry
 entryOf code =
     cond (eqb code seriesCode) (join Series) (cond (eqb code sharedCode) (join Shared) (cond (eqb code spareCode) (join Spare) (component code)))
 
--- the structure that codes spell
+-- The structure that codes spell.
 abbrev pub structureIn : List ℕ → ℕ → List Entry
 structureIn entries n = map entryOf (codesIn entries n)
 
--- the structure of a plan
+-- The structure of a plan.
 abbrev pub entriesOf : Plan → List Entry
 entriesOf p = structureIn (p .entries) (p .count)
 
--- a plan of zeros: what a refused sheet reads as
+-- A plan of zeros: what a refused sheet reads as.
 abbrev pub zeroPlan : Plan
 zeroPlan = record { components = replicate mostComponents zeroComponent; count = 0; entries = replicate mostEntries 0 }
 

@@ -15,59 +15,59 @@ use Rattle.plan.specs.declared.Flaws.{Flaws}
 use Rattle.plan.specs.Tests.{Test, test, outside, anyOf}
 use Rattle.plan.specs.Plan.{componentAt, componentsOf, entriesOf}
 
--- 3: the component count is not 1 to 6
+-- 3. The component count is not 1 to 6.
 abbrev pub rule3 : ℕ → Bool
 rule3 n = outside 1 mostComponents n
 
--- 4 (only k): an interval count is not 1 to 8
+-- 4 (only k). An interval count is not 1 to 8.
 abbrev pub badCount : Component → Bool
 badCount c = outside 1 mostHeld (c .count)
 
 unfoldable pub rule4 : List Component → Bool
 rule4 = anyOf badCount
 
--- 6: a T is not 1 to 1,000
+-- 6. A T is not 1 to 1,000.
 abbrev pub badTotal : Component → Bool
 badTotal c = outside 1 mostTotal (c .total)
 
--- 7: an interval has low above high, a speed above 4,095 or weight 0, or does not come strictly after the one before it.
--- What is wrong with an interval by itself:
+-- 7. An interval has low above high, a speed above 4,095 or weight 0, or does not come strictly after the one before it.
+-- This is what can be wrong with an interval by itself.
 abbrev pub badAlone : Focal → Bool
 badAlone f = ltb (f .high) (f .low) || ltb topSpeed (f .high) || eqb (f .weight) 0
 
--- g comes strictly after f, ascending by low, then by high
+-- The interval g comes strictly after f, ascending by low, then by high.
 abbrev pub after : Focal → Focal → Bool
 after f g = ltb (f .low) (g .low) || eqb (f .low) (g .low) && ltb (f .high) (g .high)
 
--- interval j of a component, by itself or behind the one before it
+-- Interval j of a component is wrong by itself or behind the one before it.
 abbrev pub badInterval : Component → ℕ → Bool
 badInterval c j = badAlone (focalAt c j) || ltb 0 j && not (after (focalAt c (j - 1)) (focalAt c j))
 
 abbrev pub badIntervals : Component → Bool
 badIntervals c = anyOf (badInterval c) (countFrom 0 (c .count))
 
--- 8: a component's weights do not add to T
+-- 8. A component's weights do not add to T.
 abbrev pub badSum : Component → Bool
 badSum c = not (eqb (weights (listed c)) (c .total))
 
--- none of 6, 7 and 8 is broken
+-- None of 6, 7 and 8 is broken.
 abbrev pub noFlaws : Flaws
 noFlaws = record { six = false; seven = false; eight = false }
 
--- which of them a component breaks
+-- Which of 6, 7 and 8 a component breaks.
 abbrev pub flawsOf : Component → Flaws
 flawsOf c = record { six = badTotal c; seven = badIntervals c; eight = badSum c }
 
--- which of them anyOf component of a list breaks
+-- Which of them anyOf component of a list breaks.
 abbrev pub flawsIn : List Component → Flaws
 flawsIn cs = record { six = anyOf badTotal cs; seven = anyOf badIntervals cs; eight = anyOf badSum cs }
 
--- which of them are broken on one side or the other
+-- Which of 6, 7 and 8 are broken on one side or the other.
 abbrev pub eitherFlaws : Flaws → Flaws → Flaws
 eitherFlaws a b = record { six = a .six || b .six; seven = a .seven || b .seven; eight = a .eight || b .eight }
 
--- 9: an entry is 6, 7 or above 10, or names a component not below n. All entries but 8, 9 and 10, the joins, name a component,
--- and no component has a number from 6 on.
+-- 9. An entry is 6, 7 or above 10, or names a component not below n. Every entry but the joins 8, 9 and 10 names a component, and there is
+-- no component with a number from 6 on. (`bad-code` in the proofs says this of the codes in document 01's own words.)
 abbrev pub badEntry : ℕ → Entry → Bool
 badEntry n (component i) = leb mostComponents i || leb n i
 badEntry n (join op) = false
@@ -75,35 +75,35 @@ badEntry n (join op) = false
 unfoldable pub rule9 : ℕ → List Entry → Bool
 rule9 n = anyOf (badEntry n)
 
--- 10: a component is named twice or never
+-- 10. A component is named twice or never.
 abbrev pub badNaming : List Entry → ℕ → Bool
 badNaming es i = not (eqb (countOf i (named es)) 1)
 
 unfoldable pub rule10 : ℕ → List Entry → Bool
 rule10 n es = anyOf (badNaming es) (countFrom 0 n)
 
--- 11: a join finds fewer than two lists
+-- 11. A join finds fewer than two lists.
 unfoldable pub rule11 : List Entry → Bool
 rule11 es = not (joinsFindTwo es 0)
 
--- 6, 7 and 8, of a component or of several
+-- The tests 6, 7 and 8 of a component or of several.
 abbrev pub flawTests : Flaws → List Test
 flawTests f = test 6 (f .six) ∷ test 7 (f .seven) ∷ test 8 (f .eight) ∷ []
 
--- 9, 10 and 11, of the structure of n components
+-- The tests 9, 10 and 11 of the structure of n components.
 abbrev pub structureTests : ℕ → List Entry → List Test
 structureTests n es = test 9 (rule9 n es) ∷ test 10 (rule10 n es) ∷ test 11 (rule11 es) ∷ []
 
--- 6 to 11 in their order, which reader and writer share
+-- The tests 6 to 11 in their order, which reader and writer share.
 abbrev pub rules : Plan → List Test
 rules p = flawTests (flawsIn (componentsOf p)) ++ structureTests (p .count) (entriesOf p)
 
--- What the rules 3 and 4 leave: n is 1 to 6,
+-- What rule 3 leaves: n is 1 to 6.
 pub record Counted (n : ℕ) : Type 0 where
   pub least : 1 ≤ n
   pub most : n ≤ mostComponents
 
--- and the places that a plan says to use are there.
+-- What the rules 3 and 4 leave: the places that a plan says to use are there.
 pub record Sized (p : Plan) : Type 0 where
   pub counted : Counted (p .count)
   pub held : (i : ℕ) → i < p .count → (componentAt p i) .count ≤ mostHeld

@@ -13,7 +13,7 @@ use Rattle.theory.specs.declared.Join.{Join}
 use Rattle.plan.specs.declared.Plan.{Plan}
 use Rattle.plan.specs.Plan.{componentsOf, entriesOf}
 
--- an entry names a component below n, or is a join
+-- An entry names a component below n, or is a join.
 pub data Known (n : ℕ) : Entry → Type 0 where
   names : {i : ℕ} → i < n → Known n (component i)
   joins : {op : Join} → Known n (join op)

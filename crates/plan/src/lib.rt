@@ -5,11 +5,13 @@ ghost use Prim.Native.Nat.{_≤_, _<_};
 ghost use mathlib.Core.List.{[], _∷_, _++_};
 ghost use lib.Dec.{ltb};
 ghost use Rattle.theory.specs.Sums.{countOf};
+ghost use Rattle.theory.specs.Focal.{focal};
 ghost use Rattle.theory.specs.Limits.{mostComponents, mostHeld, entryCount};
 ghost use Rattle.theory.specs.Structure.{named};
 ghost use Rattle.plan.specs.Tests.{firstBroken, outside};
 ghost use Rattle.plan.specs.Plan.{componentsOf, entryOf, structureIn};
-ghost use Rattle.plan.specs.Rules.{badAlone, after, badInterval, badIntervals, badSum, noFlaws, flawsOf, eitherFlaws, flawsIn, badEntry, rule4, rule9, rule10, rule11, flawTests, structureTests, Counted, Sized};
+ghost use Rattle.plan.specs.Rules.{rule4, badAlone, after, badInterval, badIntervals, badSum, badEntry, rule9, rule10, rule11};
+ghost use Rattle.plan.specs.Rules.{noFlaws, flawsOf, eitherFlaws, flawsIn, flawTests, structureTests, Counted, Sized};
 use theory::Component;
 use theory::Entry;
 use theory::Join;
@@ -85,7 +87,7 @@ pub fn bad_counts(p: Plan) -> bool
 
 // Rule 7 of an interval by itself.
 fn bad_alone(low: u16, high: u16, weight: u16) -> bool
-    ensures { λ r. ⌜ r ≡ badAlone (record { low = low; high = high; weight = weight }) ⌝ }
+    ensures { λ r. ⌜ r ≡ badAlone (focal low high weight) ⌝ }
 {
     if high < low {
         return true;
@@ -98,7 +100,7 @@ fn bad_alone(low: u16, high: u16, weight: u16) -> bool
 
 // The second interval comes strictly after the first.
 fn is_after(low1: u16, high1: u16, low2: u16, high2: u16) -> bool
-    ensures { λ r. ⌜ r ≡ after (record { low = low1; high = high1; weight = 0 }) (record { low = low2; high = high2; weight = 0 }) ⌝ }
+    ensures { λ r. ⌜ r ≡ after (focal low1 high1 0) (focal low2 high2 0) ⌝ }
 {
     if low1 < low2 {
         return true;
@@ -163,7 +165,7 @@ pub struct Flaws {
     pub eight: bool,
 }
 
-// None of them.
+// None of these rules is broken.
 pub fn no_flaws() -> Flaws
     ensures { λ r. ⌜ r ≡ noFlaws ⌝ }
 {
@@ -174,7 +176,7 @@ pub fn no_flaws() -> Flaws
     }
 }
 
-// By a component.
+// The flaws of a component.
 pub fn component_flaws(c: Component) -> Flaws
     requires { ⌜ c .count ≤ mostHeld ⌝ }
     ensures { λ r. ⌜ r ≡ flawsOf c ⌝ }
@@ -186,7 +188,7 @@ pub fn component_flaws(c: Component) -> Flaws
     }
 }
 
-// By what has the flaws a or by what has the flaws b.
+// The flaws of what has the flaws a or the flaws b.
 pub fn either_flaws(a: Flaws, b: Flaws) -> Flaws
     ensures { λ r. ⌜ r ≡ eitherFlaws a b ⌝ }
 {

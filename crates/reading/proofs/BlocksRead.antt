@@ -20,7 +20,7 @@ use Rattle.plan.proofs.Components.{flaws-next}
 use Rattle.reading.specs.declared.Blocks.{Blocks}
 use Rattle.reading.specs.Reading.{startOf, blockAt, anyCut, uncutBlocks, blocksIn, noBlocks}
 
--- the rest of a list, as a slice's part has it
+-- The rest of a list, as a slice's part has it.
 pub rest : (s : List ℕ) (a : ℕ) → take (length s - a) (drop a s) ≡ drop a s
 rest s a = take-all (length s - a) (drop a s) (le-of-eq (length-drop a s))
 
@@ -39,7 +39,7 @@ module _ (s : List ℕ) where
   pub uncut-next : (i : ℕ) → anyCut s i ≡ false → cutShort (blockAt s i) ≡ false → anyCut s (i + 1) ≡ false
   uncut-next i e w = sym (any-next (λ j. cutShort (blockAt s j)) i) ∙ rw (e, w)
 
-  -- the blocks lie within the sheet
+  -- The blocks lie within the sheet.
   pub starts-within : (n : ℕ) → 2 ≤ length s → anyCut s n ≡ false → startOf s n ≤ length s
   unfolding startOf
   starts-within zero h e = h
@@ -47,7 +47,7 @@ module _ (s : List ℕ) where
       let f = neither (anyCut s n) (cutShort (blockAt s (0 + n))) (sym (any-more (λ j. cutShort (blockAt s j)) 0 n) ∙ e) in
       omega (arith, starts-within n h (f .0), uncut (blockAt s n) (rw zero-add at (f .1)) .there, length-drop (startOf s n) s)
 
-  -- what the block reader answers about block i
+  -- What the block reader answers about block i.
   module _ (i : ℕ) (b : Block) (q : b ≡ blockIn (blockAt s i)) where
     pub cut-is : b .cut ≡ cutShort (blockAt s i)
     cut-is = ap (λ (x : Block). x .cut) q ∙ block-says (blockAt s i)
@@ -56,12 +56,12 @@ module _ (s : List ℕ) where
     block-fits h = rw q (omega (arith, size-fits (blockAt s i), length-drop (startOf s i) s))
 
     module _ (w : cutShort (blockAt s i) ≡ false) where
-      -- a block that was read has up to eight intervals
+      -- A block that was read has up to eight intervals.
       pub count-fits : b .component .count ≤ mostHeld
       unfolding componentOf
       count-fits = rw (q ∙ block-uncut (blockAt s i) w) (uncut (blockAt s i) w .most)
 
-      -- one block more
+      -- One block more.
       pub next-block : (r : Blocks) (z : Bool) (f : Flaws) → r ≡ uncutBlocks s i → z ≡ (r .nonzero || b .nonzero)
           → f ≡ eitherFlaws (r .flaws) (flawsOf (b .component))
           → _≡_ {A = Blocks} (record { components = set (r .components) i (b .component); cut = false; nonzero = z; flaws = f; end = r .end + b .size })

@@ -50,7 +50,7 @@ module _ (s : List ℕ) where
   pub read-refused : (k : ℕ) → 0 < k → (readOf s) .number ≡ k → readOf s ≡ record { number = k; plan = zeroPlan }
   read-refused k h e = sym (reads-refused k (λ z. omega arith) (sym e ∙ read-number))
 
--- what an accepted sheet keeps, rule by rule
+-- What an accepted sheet keeps, rule by rule.
 pub record Sound (s : List ℕ) : Type 0 where
   pub long : 2 ≤ length s
   pub said : lengthIn s ≡ length s
@@ -86,7 +86,7 @@ sound s e = go (no-number 11 (sheetTests s) refl (sym (read-number s) ∙ e))
           others = es;
         }
 
--- a rule that no component of the plan breaks, of one block
+-- A rule that no component of the plan breaks, of one block.
 block-keeps : (s : List ℕ) → Sound s → (f : Component → Bool) → anyOf f (componentsOf (planIn s)) ≡ false → (i : ℕ) → i < componentCount s
     → f (componentIn (blockAt s i)) ≡ false
 block-keeps s a f e i l =

@@ -20,43 +20,43 @@ use Rattle.reading.specs.declared.Head.{Head}
 use Rattle.reading.specs.declared.Blocks.{Blocks}
 use Rattle.reading.specs.declared.Reading.{Reading}
 
--- the edition in a sheet's head
+-- The edition in a sheet's head.
 abbrev pub editionIn : List ℕ → ℕ
 editionIn s = fieldAt s 0 4
 
--- the component count n there
+-- The component count n there.
 abbrev pub componentCount : List ℕ → ℕ
 componentCount s = fieldAt s 4 4
 
--- the sheet length in bytes there: the length byte
+-- The sheet length in bytes there: the length byte.
 abbrev pub lengthIn : List ℕ → ℕ
 lengthIn s = fieldAt s 8 8
 
--- the byte at which block i starts: behind the head, then each behind the one before it
+-- The byte at which block i starts: behind the head, then each behind the one before it.
 unfoldable pub startOf : List ℕ → ℕ → ℕ
 startOf s zero = 2
 startOf s (suc i) = startOf s i + sizeOf (countIn (drop (startOf s i) s))
 
--- block i, and the rest of the sheet behind it
+-- Block i, and the rest of the sheet behind it.
 abbrev pub blockAt : List ℕ → ℕ → List ℕ
 blockAt s i = drop (startOf s i) s
 
--- the bit at which the structure starts; entry j stands 4 j bits on, and the last four bits behind the last entry
+-- The bit at which the structure starts; entry j stands 4 j bits on, and the last four bits behind the last entry.
 abbrev pub structurePlace : List ℕ → ℕ
 structurePlace s = 8 * startOf s (componentCount s)
 
--- the components of the first n blocks, and the same as a plan holds them, zero in the unused places
+-- The components of the first n blocks; and the same as a plan holds them, with zero in the unused places.
 abbrev pub blockComponents : List ℕ → ℕ → List Component
 blockComponents s n = map (λ i. componentIn (blockAt s i)) (countFrom 0 n)
 
 abbrev pub componentsIn : List ℕ → ℕ → List Component
 componentsIn s n = row zeroComponent mostComponents (λ i. componentIn (blockAt s i)) n
 
--- the m codes from bit a on, zero in the unused places
+-- The m codes from bit a on, with zero in the unused places.
 abbrev pub entriesAt : List ℕ → ℕ → ℕ → List ℕ
 entriesAt s a m = row 0 mostEntries (λ j. fieldAt s (a + 4 * j) 4) m
 
--- the plan that a sheet's fields spell
+-- The plan that a sheet's fields spell.
 unfoldable pub planIn : List ℕ → Plan
 planIn s =
     record {
@@ -65,53 +65,53 @@ planIn s =
       entries = entriesAt s (structurePlace s) (entryCount (componentCount s));
     }
 
--- 1: the sheet has fewer than 2 bytes, or its length byte is not its length
+-- 1. The sheet has fewer than 2 bytes, or its length byte is not its length.
 abbrev pub badLength : List ℕ → Bool
 badLength s = ltb (length s) 2 || not (eqb (lengthIn s) (length s))
 
--- 2: the edition is not 1
+-- 2. The edition is not 1.
 abbrev pub badEdition : List ℕ → Bool
 badEdition s = not (eqb (editionIn s) 1)
 
--- 4: one of the first n blocks is cut short or its k is not 1 to 8,
+-- One of the first n blocks is cut short or its k is not 1 to 8.
 abbrev pub anyCut : List ℕ → ℕ → Bool
 anyCut s n = anyOf (λ i. cutShort (blockAt s i)) (countFrom 0 n)
 
--- or after the last block there are not exactly n bytes
+-- 4. Reading blocks in turn, a block is cut short or its k is not 1 to 8, or after the last block there are not exactly n bytes.
 unfoldable pub badLayout : List ℕ → Bool
 badLayout s = anyCut s (componentCount s) || not (eqb (startOf s (componentCount s) + componentCount s) (length s))
 
--- 5: a bit named zero is one, in one of the first n blocks,
+-- A bit named zero is one in one of the first n blocks.
 abbrev pub anyNonzero : List ℕ → ℕ → Bool
 anyNonzero s n = anyOf (λ i. badZeroBits (blockAt s i)) (countFrom 0 n)
 
--- or in the last four
+-- 5. A bit named zero is one, in a block or in the last four bits.
 unfoldable pub badZeros : List ℕ → Bool
 badZeros s =
     anyNonzero s (componentCount s) || not (eqb (fieldAt s (structurePlace s + 4 * entryCount (componentCount s)) 4) 0)
 
--- 1 to 3, of the head
+-- The tests 1 to 3, of the head.
 abbrev pub headTests : List ℕ → List Test
 headTests s = test 1 (badLength s) ∷ test 2 (badEdition s) ∷ test 3 (rule3 (componentCount s)) ∷ []
 
--- 4 and 5, of the layout
+-- The tests 4 and 5, of the layout.
 abbrev pub layoutTests : List ℕ → List Test
 layoutTests s = test 4 (badLayout s) ∷ test 5 (badZeros s) ∷ []
 
--- 1 to 11 in their order
+-- The tests 1 to 11 in their order.
 abbrev pub sheetTests : List ℕ → List Test
 sheetTests s = headTests s ++ (layoutTests s ++ rules (planIn s))
 
--- 5 to 8 of the one block at the front of s
+-- The tests 5 to 8 of the one block at the front of s.
 abbrev pub blockTests : List ℕ → List Test
 blockTests s = test 5 (badZeroBits s) ∷ flawTests (flawsOf (componentIn s))
 
--- an accepted sheet's plan; a refused sheet reads as a plan of zeros
+-- An accepted sheet's plan; a refused sheet reads as a plan of zeros.
 abbrev pub reading : ℕ → Plan → Reading
 reading zero p = record { number = 0; plan = p }
 reading (suc k) p = record { number = suc k; plan = zeroPlan }
 
--- what a sheet reads as
+-- What a sheet reads as.
 unfoldable pub readOf : List ℕ → Reading
 readOf s = reading (firstBroken (sheetTests s)) (planIn s)
 
@@ -132,7 +132,7 @@ head (suc k) n = record { number = suc k; count = 0 }
 unfoldable pub headIn : List ℕ → Head
 headIn s = head (firstBroken (headTests s)) (componentCount s)
 
--- The first n blocks, read in turn: where none is cut short,
+-- The first n blocks, read in turn, where none is cut short.
 abbrev pub uncutBlocks : List ℕ → ℕ → Blocks
 uncutBlocks s n =
     record {
@@ -143,16 +143,16 @@ uncutBlocks s n =
       end = startOf s n;
     }
 
--- where one is,
+-- The same where one is cut short.
 abbrev pub noBlocks : Blocks
 noBlocks =
     record { components = replicate mostComponents zeroComponent; cut = true; nonzero = false; flaws = noFlaws; end = 0 }
 
--- and in either case.
+-- The first n blocks in either case.
 unfoldable pub blocksIn : List ℕ → ℕ → Blocks
 blocksIn s n = cond (anyCut s n) noBlocks (uncutBlocks s n)
 
--- what the layout's tests are told of a sheet that keeps 1 to 3 and of its blocks
+-- What the layout's tests are told of a sheet that keeps 1 to 3 and of its blocks.
 pub record Told (s : List ℕ) (n : ℕ) (cut nonzero : Bool) (end : ℕ) : Type 0 where
   pub count : n ≡ componentCount s
   pub counted : Counted n

@@ -113,14 +113,14 @@ fn read_blocks(sheet: &[u8], n: usize) -> Blocks
     }
 }
 
-// The m codes from bit at on.
-fn read_entries(sheet: &[u8], at: usize, m: usize) -> [u8; theory::MOST_ENTRIES]
-    requires { ⌜ (m ≤ mostEntries) × (at + 4 * m ≤ 8 * length (now sheet)) × (at + 4 * m ≤ 65536) ⌝ }
-    ensures { λ r. ⌜ r ≡ entriesAt (now (sheet .entry)) at m ⌝ }
+// The m codes from bit `place` on.
+fn read_entries(sheet: &[u8], place: usize, m: usize) -> [u8; theory::MOST_ENTRIES]
+    requires { ⌜ (m ≤ mostEntries) × (place + 4 * m ≤ 8 * length (now sheet)) × (place + 4 * m ≤ 65536) ⌝ }
+    ensures { λ r. ⌜ r ≡ entriesAt (now (sheet .entry)) place m ⌝ }
 {
     let mut entries = [0u8; theory::MOST_ENTRIES];
     for j in 0..m {
-        entries[j] = reader::one(sheet, at + 4 * j, 4) as u8;
+        entries[j] = reader::one(sheet, place + 4 * j, 4) as u8;
     }
     entries
 }

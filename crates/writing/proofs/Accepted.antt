@@ -51,7 +51,7 @@ module _ (p : Plan) (room : ℕ) where
   unfolding writtenOf
   written-length e = rw e
 
--- a number other than 0 is answered with length 0, and nothing is written
+-- A number other than 0 is answered with length 0, and nothing is written.
 pub written-refused : (p : Plan) (room k : ℕ) → (k ≡ 0 → ⊥) → k ≡ numberOf p room → record { number = k; length = 0 } ≡ writtenOf p room
 unfolding writtenOf
 written-refused p room k h e = go k h ∙ ap (λ x. written x (lengthOf p)) e

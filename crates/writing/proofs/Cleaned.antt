@@ -21,15 +21,15 @@ use Rattle.plan.specs.declared.Flaws.{Flaws}
 use Rattle.plan.specs.Tests.{Test, test, firstBroken, anyOf}
 use Rattle.plan.specs.Plan.{componentAt, componentsOf, codesOf, entryOf, cleanedPlan}
 use Rattle.plan.specs.Rules.{rule3, badCount, rule4, badTotal, badAlone, after, badInterval, badIntervals, badSum, flawsIn, flawTests, structureTests, rules}
-use Rattle.plan.proofs.Tests.{each, any-map, any-alike, map-below, within}
+use Rattle.plan.proofs.Tests.{every-failed, any-map, any-alike, map-below, within}
 use Rattle.writing.specs.Writing.{sizeTests, numberOf, lengthOf, sheetFields, written, writtenOf, bytesBy, bytesAfter, IgnoresUnused}
 use Rattle.writing.proofs.Accepted.{number-accepts}
 
--- the fields of an interval
+-- The fields of an interval.
 abbrev focalFields : Focal → List Field
 focalFields f = bits speedBits (f .low) ∷ bits speedBits (f .high) ∷ bits weightBits (f .weight) ∷ []
 
--- one component that is held
+-- One component that is held.
 module _ (c : Component) (l : c .count ≤ mostHeld) where
   focal-cleaned : (j : ℕ) → j < c .count → focalAt (cleaned c) j ≡ focalAt c j
   unfolding cleaned
@@ -58,7 +58,7 @@ module _ (c : Component) (l : c .count ≤ mostHeld) where
   unfolding fieldsOf cleaned
   fields-cleaned = rw (first-cleaned (c .count) (omega arith))
 
--- components that are held
+-- Components that are held.
 abbrev Held : List Component → Type 0
 Held = Every (λ c. c .count ≤ mostHeld)
 
@@ -79,9 +79,9 @@ counts-cleaned cs = any-map badCount cleaned cs
 
 held : (p : Plan) → rule4 (componentsOf p) ≡ false → Held (componentsOf p)
 unfolding rule4
-held p e = each badCount (componentsOf p) (λ c h. within 1 mostHeld (c .count) h .1) e
+held p e = every-failed badCount (componentsOf p) (λ c h. within 1 mostHeld (c .count) h .1) e
 
--- a plan with up to six components
+-- A plan with up to six components.
 module _ (p : Plan) (n : p .count ≤ mostComponents) where
   count-cleaned : (cleanedPlan p) .count ≡ p .count
   unfolding cleanedPlan
@@ -139,7 +139,7 @@ module _ (p : Plan) (room : ℕ) where
       three true e = rw e
       three false e = four (within 1 mostComponents (p .count) e .1) (rule4 (componentsOf p)) refl
 
-  -- where it is accepted
+  -- Where it is accepted.
   module _ (e : numberOf p room ≡ 0) where
     most : p .count ≤ mostComponents
     most = within 1 mostComponents (p .count) (number-accepts p room e .three) .1
@@ -150,7 +150,7 @@ module _ (p : Plan) (room : ℕ) where
     same-fields : sheetFields (cleanedPlan p) ≡ sheetFields p
     same-fields = sheet-cleaned p most (held p (number-accepts p room e .four))
 
--- what is answered and written depends on the length and the fields only where nothing is refused
+-- What is answered and written depends on the length and the fields only where nothing is refused.
 written-same : (k a b : ℕ) → (k ≡ 0 → a ≡ b) → written k a ≡ written k b
 written-same zero a b h = rw (h refl)
 written-same (suc k) a b h = refl

@@ -22,7 +22,7 @@ use Rattle.plan.proofs.Entries.{known-fits}
 use Rattle.writing.proofs.Sizes.{end-most}
 use Rattle.plan.proofs.Tests.{every-below}
 
--- one weight of a sum
+-- One weight of a sum.
 weight-within : (c : Component) (k n i : ℕ) → k ≤ i → i < k + n → getD (c .weights) i 0 ≤ weights (map (focalAt c) (countFrom k n))
 weight-within c k zero i a b = absurd (omega arith)
 weight-within c k (suc n) i a b = elim (ℕ-discrete i k) [

@@ -30,7 +30,7 @@ use Rattle.plan.specs.Valid.{Valid}
 use Rattle.writing.proofs.Sizes.{bytesLeft, fieldsLeft, bytes-start, bytes-next, bytes-end, fields-start, width-blocks, width-of-codes}
 use Rattle.plan.proofs.Tests.{none-below, every-below, not-outside}
 
--- codes in a row
+-- Codes in a row.
 pub codes-held : (s : List ℕ) (g : ℕ → ℕ) (a k m j : ℕ) → Holds s a (map (bits 4) (map g (countFrom k m))) → j < m → fieldAt s (a + 4 * j) 4 ≡ g (k + j)
 unfolding Holds
 codes-held s g a k zero j h l = absurd (omega arith)
@@ -63,7 +63,7 @@ module _ (t : List ℕ) (p : Plan) (z : Sized p) (k : Valid p) (h : Holds t 0 (s
       let w : 16 + widthOf (blockFields p) ≡ 8 * endOf p = rw (width-blocks (componentsOf p)) (omega arith) in
       rw w at (holds-right t 16 (blockFields p) (structureFields p) body-held)
 
-  -- where block i starts, and what is held from there on
+  -- Where block i starts, and what is held from there on.
   abbrev At : ℕ → Type 0
   At i = (startOf t i + bytesLeft p i ≡ endOf p) × Holds t (8 * startOf t i) (fieldsLeft p i)
 
@@ -106,7 +106,7 @@ module _ (t : List ℕ) (p : Plan) (z : Sized p) (k : Valid p) (h : Holds t 0 (s
   unfolding Holds
   last-is = rw (ends, ← width-of-codes p) (holds-right t (8 * endOf p) (map (bits 4) (codesOf p)) (bits 4 0 ∷ []) structure-held .0)
 
-  -- numbers 4 and 5
+  -- Numbers 4 and 5.
   layout-kept : badLayout t ≡ false
   unfolding badLayout lengthOf
   layout-kept =

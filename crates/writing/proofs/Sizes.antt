@@ -19,7 +19,7 @@ use Rattle.writing.specs.Writing.{endOf, lengthOf, headFields, blockFiel
 use Rattle.plan.proofs.Loops.{from, from-zero, from-next, from-end}
 use Rattle.theory.proofs.Sums.{length-count}
 
--- the bytes and the fields of the blocks from i on
+-- The bytes and the fields of the blocks from i on.
 module _ (p : Plan) where
   abbrev pub bytesLeft : ℕ → ℕ
   bytesLeft i = sumBy (λ c. sizeOf (c .count)) (map (componentAt p) (from i (p .count)))
@@ -39,7 +39,7 @@ module _ (p : Plan) where
   pub fields-start : fieldsLeft 0 ≡ blockFields p
   fields-start = rw (from-zero (p .count))
 
-  -- one block more
+  -- One block more.
   pub fields-next : (s t : List ℕ) (a i : ℕ) → i < p .count → t ≡ putAll s (8 * a) (fieldsOf (componentAt p i))
       → putAll t (8 * (a + sizeOf ((componentAt p i) .count))) (fieldsLeft (i + 1)) ≡ putAll s (8 * a) (fieldsLeft i)
   fields-next s t a i h e =
@@ -51,7 +51,7 @@ module _ (p : Plan) where
   unfolding putAll
   fields-end s a i h = rw (from-end i (p .count) h)
 
-  -- a block has 36 bytes at most, and so the blocks of a sheet end by byte 218
+  -- A block has 36 bytes at most, and so the blocks of a sheet end by byte 218.
   pub end-most : Sized p → endOf p ≤ 218
   end-most z = omega (arith, sums-most 0 (p .count) (λ i h. size-most ((componentAt p i) .count) (z .held i (omega arith))), z .counted .most)
     where
@@ -62,7 +62,7 @@ module _ (p : Plan) where
       sums-most k zero h = omega arith
       sums-most k (suc n) h = omega (arith, sums-most (suc k) n (λ i l. h i (omega arith)), h k (omega arith))
 
-  -- what is known of the sizes of a plan's sheet
+  -- What is known of the sizes of a plan's sheet.
   pub record Sizes : Type 0 where
     pub least : 1 ≤ p .count
     pub most : p .count ≤ mostComponents
@@ -73,7 +73,7 @@ module _ (p : Plan) where
   unfolding lengthOf
   sizes z = record { least = z .counted .least; most = z .counted .most; sum = refl; end = end-most z }
 
--- the codes from place j on, of m
+-- The codes from place j on, of m.
 abbrev pub codesLeft : List ℕ → ℕ → ℕ → List Field
 codesLeft es j m = map (bits 4) (map (λ k. getD es k 0) (from j m))
 
@@ -92,7 +92,7 @@ pub codes-end : (es s : List ℕ) (a j m : ℕ) → m ≤ j → putAll s a (code
 unfolding putAll
 codes-end es s a j m h = rw (from-end j m h)
 
--- how many bits the parts take
+-- How many bits the parts take.
 pub width-blocks : (cs : List Component) → widthOf (forEach cs fieldsOf) ≡ 8 * sumBy (λ c. sizeOf (c .count)) cs
 unfolding widthOf
 width-blocks [] = refl
@@ -106,7 +106,7 @@ width-codes (x ∷ l) = rw (width-codes l) (omega arith)
 pub width-of-codes : (p : Plan) → widthOf (map (bits 4) (codesOf p)) ≡ 4 * entryCount (p .count)
 width-of-codes p = rw (width-codes (codesOf p)) (simp (length-map, length-count))
 
--- the parts of a sheet, put in one after the other
+-- The parts of a sheet, put in one after the other.
 pub parts-put : (p : Plan) (s x y z w : List ℕ) (a : ℕ) → a ≡ 8 * endOf p → x ≡ putAll s 0 (headFields (p .count) (lengthOf p)) → y ≡ putAll x 16 (blockFields p) → z ≡ putAll y a (map (bits 4) (codesOf p))
     → w ≡ putAt z (a + 4 * entryCount (p .count)) 4 0 → w ≡ putAll s 0 (sheetFields p)
 unfolding putAll sheetFields widthOf

@@ -27,7 +27,7 @@ use Rattle.writing.proofs.ReadBack.{reads-back}
 use Rattle.writing.proofs.Sizes.{sizes, width-blocks, width-of-codes}
 use Rattle.writing.proofs.WriteBack.{counts-kept, count-kept, length-at, sheet-held}
 
--- a sheet fills its bytes
+-- A sheet fills its bytes.
 width-sheet : (p : Plan) → 1 ≤ p .count → widthOf (sheetFields p) ≡ 8 * lengthOf p
 unfolding sheetFields lengthOf widthOf
 width-sheet p h =
@@ -48,18 +48,18 @@ module _ (p : Plan) (room : ℕ) (e : (writtenOf p room) .number ≡ 0) where
   accepted : Accepted p room
   accepted = number-accepts p room (sym (written-number p room) ∙ e)
 
-  -- an accepted plan meets the premises of the drive calculation
+  -- An accepted plan meets the premises of the drive calculation.
   pub written-valid : Valid p
   written-valid = valid p (accepted .three) (accepted .four) (accepted .others)
 
   sized-plan : Sized p
   sized-plan = sized p (accepted .three) (accepted .four)
 
-  -- it answers the sheet's length
+  -- It answers the sheet's length.
   pub written-sheet : writtenOf p room ≡ record { number = 0; length = lengthOf p }
   written-sheet = written-length p room (sym (written-number p room) ∙ e)
 
-  -- the longest sheet has 224 bytes
+  -- The longest sheet has 224 bytes.
   pub written-longest : lengthOf p ≤ 224
   written-longest = omega (arith, sizes p sized-plan)
 
@@ -92,7 +92,7 @@ written-is-read p s e =
     let l : length t ≡ lengthOf p = length-take-le (lengthOf p) b (omega (arith, lb, a .fits)) in
     rw (written-sheet p (length s) e, accepted-bytes p s (sym (written-number p (length s)) ∙ e)) (reads-back t p z k g l (a .others))
 
--- and so does the plan of an accepted sheet
+-- And so does the plan of an accepted sheet.
 pub read-valid : (s : List ℕ) → (readOf s) .number ≡ 0 → Valid ((readOf s) .plan)
 read-valid s e =
     let a = sound s e in

@@ -27,7 +27,7 @@ use Rattle.reading.proofs.Decided.{Sound}
 use Rattle.writing.specs.Writing.{endOf, lengthOf, blockFields, structureFields, sheetFields}
 use Rattle.writing.proofs.Sizes.{bytesLeft, fieldsLeft, bytes-start, bytes-next, bytes-end, fields-start, width-blocks, width-of-codes}
 
--- codes in a row
+-- Codes in a row.
 codes-hold : (s : List ℕ) (g : ℕ → ℕ) (a k m : ℕ) → ((j : ℕ) → j < m → fieldAt s (a + 4 * j) 4 ≡ g (k + j)) → Holds s a (map (bits 4) (map g (countFrom k m)))
 unfolding Holds
 codes-hold s g a k zero h = tt
@@ -75,7 +75,7 @@ module _ (s : List ℕ) (a : Sound s) where
   unfolding lengthOf
   length-at = omega (arith, plan-count, end-at, a .ends)
 
-  -- the blocks from i on, d of them
+  -- The blocks from i on, d of them.
   blocks-at : (d i : ℕ) → i + d ≡ componentCount s → Holds s (8 * startOf s i) (fieldsLeft (planIn s) i)
   unfolding Holds startOf
   blocks-at zero i e = rw (from-end i ((planIn s) .count) (omega (arith, plan-count))) tt

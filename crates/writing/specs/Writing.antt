@@ -13,48 +13,48 @@ use Rattle.plan.specs.Tests.{Test, test, firstBroken}
 use Rattle.plan.specs.Plan.{componentsOf, codesOf, cleanedPlan}
 use Rattle.plan.specs.Rules.{rule3, rule4, rules}
 
--- the byte behind the last block: head, then the blocks
+-- The byte behind the last block: head, then the blocks.
 abbrev pub endOf : Plan → ℕ
 endOf p = 2 + sumBy (λ c. sizeOf (c .count)) (componentsOf p)
 
--- the bytes of a plan's sheet: behind the blocks, a byte of structure for each component
+-- The bytes of a plan's sheet: behind the blocks, a byte of structure for each component.
 unfoldable pub lengthOf : Plan → ℕ
 lengthOf p = endOf p + p .count
 
--- the head as fields: edition 1, n, the length
+-- The head as fields: edition 1, n, the length.
 abbrev pub headFields : ℕ → ℕ → List Field
 headFields n len = bits 4 1 ∷ bits 4 n ∷ bits 8 len ∷ []
 
--- the blocks
+-- The blocks.
 abbrev pub blockFields : Plan → List Field
 blockFields p = forEach (componentsOf p) fieldsOf
 
--- the structure: the codes, then four zero bits
+-- The structure: the codes, then four zero bits.
 abbrev pub structureFields : Plan → List Field
 structureFields p = map (bits 4) (codesOf p) ++ (bits 4 0 ∷ [])
 
--- the sheet of a plan, as fields in a row
+-- The sheet of a plan, as fields in a row.
 unfoldable pub sheetFields : Plan → List Field
 sheetFields p = headFields (p .count) (lengthOf p) ++ (blockFields p ++ structureFields p)
 
--- 3 and 4 (only k) of a plan
+-- 3 and 4 (only k) of a plan.
 abbrev pub sizeTests : Plan → List Test
 sizeTests p = test 3 (rule3 (p .count)) ∷ test 4 (rule4 (componentsOf p)) ∷ []
 
--- the writer's tests: 3, 4 (only k), 6 to 11, then 15, the buffer is shorter than the sheet
+-- The writer's tests: 3, 4 (only k), 6 to 11, then 15, the buffer is shorter than the sheet.
 abbrev pub planTests : Plan → ℕ → List Test
 planTests p room = sizeTests p ++ (rules p ++ (test 15 (ltb room (lengthOf p)) ∷ []))
 
--- the least of them that applies to a plan and a buffer of room bytes, or 0
+-- The least of them that applies to a plan and a buffer of room bytes, or 0.
 abbrev pub numberOf : Plan → ℕ → ℕ
 numberOf p room = firstBroken (planTests p room)
 
--- the sheet's length, or the number of the refusal and length 0
+-- The sheet's length, or the number of the refusal and length 0.
 abbrev pub written : ℕ → ℕ → Written
 written zero len = record { number = 0; length = len }
 written (suc k) len = record { number = suc k; length = 0 }
 
--- what the writer answers
+-- What the writer answers.
 unfoldable pub writtenOf : Plan → ℕ → Written
 writtenOf p room = written (numberOf p room) (lengthOf p)
 
@@ -63,7 +63,7 @@ abbrev pub bytesBy : ℕ → List ℕ → List Field → List ℕ
 bytesBy zero buffer fields = putAll buffer 0 fields
 bytesBy (suc k) buffer fields = buffer
 
--- the buffer's bytes afterwards
+-- The buffer's bytes afterwards.
 unfoldable pub bytesAfter : Plan → List ℕ → List ℕ
 bytesAfter p buffer = bytesBy (numberOf p (length buffer)) buffer (sheetFields p)
 

@@ -79,15 +79,15 @@ fn put_blocks(out: &mut [u8], p: Plan)
     }
 }
 
-// The codes of a structure of n components, from bit at on.
-fn put_entries(out: &mut [u8], at: usize, entries: [u8; theory::MOST_ENTRIES], n: usize)
+// The codes of a structure of n components, from bit `place` on.
+fn put_entries(out: &mut [u8], place: usize, entries: [u8; theory::MOST_ENTRIES], n: usize)
     requires { ⌜ Counted n ⌝ }
-    requires { ⌜ (at + 8 * n ≤ 8 * length (now out)) × (at + 8 * n ≤ 65536) ⌝ }
-    ensures { λ _. ⌜ now (out .exit) ≡ putAll (now (out .entry)) at (map (bits 4) (codesIn entries n)) ⌝ }
+    requires { ⌜ (place + 8 * n ≤ 8 * length (now out)) × (place + 8 * n ≤ 65536) ⌝ }
+    ensures { λ _. ⌜ now (out .exit) ≡ putAll (now (out .entry)) place (map (bits 4) (codesIn entries n)) ⌝ }
 {
     let m = plan::entry_count(n);
     for j in 0..m {
-        field::put_field(out, at + 4 * j, 4, entries[j] as u32);
+        field::put_field(out, place + 4 * j, 4, entries[j] as u32);
     }
 }
 
@@ -99,11 +99,11 @@ fn put_sheet(out: &mut [u8], p: Plan, len: usize)
 {
     let n = p.count;
     let entries = p.entries;
-    let at = 8 * (len - n);
+    let place = 8 * (len - n);
     field::put_three(out, 0, 4, 1, 4, n as u32, 8, len as u32);
     put_blocks(out, p);
-    put_entries(out, at, entries, n);
-    field::put_field(out, at + 4 * plan::entry_count(n), 4, 0);
+    put_entries(out, place, entries, n);
+    field::put_field(out, place + 4 * plan::entry_count(n), 4, 0);
 }
 
 // The sheet of a plan at the front of out; where the plan is refused, out stays as it is.

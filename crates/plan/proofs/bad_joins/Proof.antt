@@ -10,14 +10,14 @@ use Rattle.theory.specs.Structure.{joinsFindTwo}
 use Rattle.theory.specs.Limits.{entryCount}
 use Rattle.plan.specs.Plan.{structureIn}
 use Rattle.plan.specs.Rules.{rule11}
-use Rattle.plan.proofs.Entries.{left, left-end, find-component, find-few, find-two}
+use Rattle.plan.proofs.Entries.{entriesFrom, entries-end, find-component, find-few, find-two}
 use Rattle.plan.proofs.Loops.{from-zero}
 use Rattle.plan.proofs.bad_joins.Statement.{statement}
 use Rattle.plan.proofs.bad_joins.Tie as tie
 
 abbrev Inv-loop : tie.InvT-loop
 Inv-loop n entries m height₀ j₀ height j =
-    (j ≤ m) × (joinsFindTwo (left entries j (entryCount n)) height ≡ joinsFindTwo (structureIn entries n) 0) × (height ≤ j)
+    (j ≤ m) × (joinsFindTwo (entriesFrom entries j (entryCount n)) height ≡ joinsFindTwo (structureIn entries n) 0) × (height ≤ j)
 
 abbrev μ-loop : tie.MeasureT-loop
 μ-loop n entries m height₀ j₀ height j = m - j
@@ -58,7 +58,7 @@ unfolding rule11
 returns-2 c =
     let a = c .before .before .before .args in
     let l = c .before .loop in
-    let e : joinsFindTwo (left (a .t1) (l .j) (entryCount (a .n))) (l .height) ≡ true = rw (left-end (a .t1) (l .j) (entryCount (a .n)) (omega arith)) in
+    let e : joinsFindTwo (entriesFrom (a .t1) (l .j) (entryCount (a .n))) (l .height) ≡ true = rw (entries-end (a .t1) (l .j) (entryCount (a .n)) (omega arith)) in
     ap not (sym e ∙ l .inv .1)
 
 pub bad-joins-spec : {M : Type 1} → statement M

@@ -6,23 +6,23 @@ use Prim.Native.Nat.{ℕ, _+_, _-_, _*_, _≤_, _<_}
 use native.Mathlib.Nat.{zero-add}
 use native.Mathlib.Omega.{arith}
 use lib.ListN.{getD}
-use Rattle.theory.specs.Focal.{focalAt, masses, weights}
+use Rattle.theory.specs.Focal.{focalAt, listed, weights}
 use Rattle.theory.specs.declared.Component.{Component}
 use Rattle.plan.proofs.Loops.{from, from-zero, from-next, from-end}
 use Rattle.plan.proofs.bad_sum.Statement.{statement}
 use Rattle.plan.proofs.bad_sum.Tie as tie
 
--- one weight more
+-- One weight more.
 more : (c : Component) (j sum x : ℕ) → j < c .count → x ≡ getD (c .weights) j 0
     → sum + x + weights (map (focalAt c) (from (j + 1) (c .count))) ≡ sum + weights (map (focalAt c) (from j (c .count)))
 more c j sum x h e = rw (from-next j (c .count) h, e) (omega arith)
 
--- none is left
-all : (c : Component) (j sum : ℕ) → c .count ≤ j → sum + weights (map (focalAt c) (from j (c .count))) ≡ weights (masses c) → sum ≡ weights (masses c)
+-- None is left.
+all : (c : Component) (j sum : ℕ) → c .count ≤ j → sum + weights (map (focalAt c) (from j (c .count))) ≡ weights (listed c) → sum ≡ weights (listed c)
 all c j sum h e = sym (rw (from-end j (c .count) h) (omega arith)) ∙ e
 
 abbrev Inv-loop : tie.InvT-loop
-Inv-loop c k sum₀ j₀ sum j = (j ≤ k) × (sum + weights (map (focalAt c) (from j k)) ≡ weights (masses c)) × (sum ≤ 65535 * j)
+Inv-loop c k sum₀ j₀ sum j = (j ≤ k) × (sum + weights (map (focalAt c) (from j k)) ≡ weights (listed c)) × (sum ≤ 65535 * j)
 
 abbrev μ-loop : tie.MeasureT-loop
 μ-loop c k sum₀ j₀ sum j = k - j

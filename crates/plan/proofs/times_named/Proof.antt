@@ -10,24 +10,24 @@ use Rattle.theory.specs.Sums.{countOf}
 use Rattle.theory.specs.Structure.{named}
 use Rattle.theory.specs.Limits.{entryCount}
 use Rattle.plan.specs.Plan.{entryOf, structureIn}
-use Rattle.plan.proofs.Entries.{left, left-next, left-end, names-next}
+use Rattle.plan.proofs.Entries.{entriesFrom, entries-next, entries-end, names-next}
 use Rattle.plan.proofs.Loops.{from-zero}
 use Rattle.plan.proofs.times_named.Statement.{statement}
 use Rattle.plan.proofs.times_named.Tie as tie
 
--- one entry more
+-- One entry more.
 more : (s : List ℕ) (i m j times x : ℕ) → j < m → x ≡ countOf i (named (entryOf (getD s j 0) ∷ []))
-    → times + x + countOf i (named (left s (j + 1) m)) ≡ times + countOf i (named (left s j m))
-more s i m j times x h e = rw (left-next s j m h, names-next i (entryOf (getD s j 0)) (left s (j + 1) m), e) (omega arith)
+    → times + x + countOf i (named (entriesFrom s (j + 1) m)) ≡ times + countOf i (named (entriesFrom s j m))
+more s i m j times x h e = rw (entries-next s j m h, names-next i (entryOf (getD s j 0)) (entriesFrom s (j + 1) m), e) (omega arith)
 
--- none is left
-all : (s : List ℕ) (i n j times : ℕ) → entryCount n ≤ j → times + countOf i (named (left s j (entryCount n))) ≡ countOf i (named (structureIn s n))
+-- None is left.
+all : (s : List ℕ) (i n j times : ℕ) → entryCount n ≤ j → times + countOf i (named (entriesFrom s j (entryCount n))) ≡ countOf i (named (structureIn s n))
     → times ≡ countOf i (named (structureIn s n))
-all s i n j times h e = sym (rw (left-end s j (entryCount n) h) (omega arith)) ∙ e
+all s i n j times h e = sym (rw (entries-end s j (entryCount n) h) (omega arith)) ∙ e
 
 abbrev Inv-loop : tie.InvT-loop
 Inv-loop n i entries m times₀ j₀ times j =
-    (j ≤ m) × (times + countOf i (named (left entries j (entryCount n))) ≡ countOf i (named (structureIn entries n))) × (times ≤ j)
+    (j ≤ m) × (times + countOf i (named (entriesFrom entries j (entryCount n))) ≡ countOf i (named (structureIn entries n))) × (times ≤ j)
 
 abbrev μ-loop : tie.MeasureT-loop
 μ-loop n i entries m times₀ j₀ times j = m - j

@@ -15,7 +15,7 @@ use Rattle.reading.proofs.SheetLayout.{layoutBy, layout-is}
 use Rattle.reading.proofs.layout_number.Statement.{statement}
 use Rattle.reading.proofs.layout_number.Tie as tie
 
--- a number by what the tests are told is the number of the sheet's tests
+-- A number by what the tests are told is the number of the sheet's tests.
 by-told : {s : List ℕ} {n : ℕ} {cut nonzero : Bool} {end : ℕ} (k : ℕ) → Told s n cut nonzero end → k ≡ firstBroken (layoutBy s n cut nonzero end)
     → k ≡ firstBroken (layoutTests s)
 by-told {s} {n} k t e = e ∙ layout-is s n (t .count) (t .cut-is) (t .nonzero-is) (t .end-is)

@@ -18,7 +18,7 @@ use Rattle.reading.proofs.BlocksRead.{rest, cut-is, block-fits, blocks-
 use Rattle.reading.proofs.read_blocks.Statement.{statement}
 use Rattle.reading.proofs.read_blocks.Tie as tie
 
--- what the loop has so far
+-- What the loop has so far.
 abbrev soFar : List Component → Bool → Flaws → ℕ → Blocks
 soFar components nonzero flaws end = record { components = components; cut = false; nonzero = nonzero; flaws = flaws; end = end }
 
@@ -29,7 +29,7 @@ Inv-loop sheet n components₀ nonzero₀ flaws₀ end₀ i₀ components nonzer
 abbrev μ-loop : tie.MeasureT-loop
 μ-loop sheet n components₀ nonzero₀ flaws₀ end₀ i₀ components nonzero flaws end i = n - i
 
--- after a block was read
+-- After a block was read.
 module _ (c : tie.After-read-block Inv-loop μ-loop) where
   abbrev sheet : List ℕ
   sheet = now (c .before .before .before .before .before .before .before .args .sheet)
@@ -40,12 +40,12 @@ module _ (c : tie.After-read-block Inv-loop μ-loop) where
   end-is : c .before .before .before .loop .end ≡ startOf sheet i
   end-is = ap (λ (r : Blocks). r .end) (c .before .before .before .loop .inv .2)
 
-  -- what `read_block` found, of the rest of the sheet from block i on
+  -- What `read_block` found, of the rest of the sheet from block i on.
   found : c .read-block .result ≡ blockIn (blockAt sheet i)
   found =
       c .read-block .ensures ∙ ap blockIn (rest sheet (c .before .before .before .loop .end)) ∙ ap (λ e. blockIn (drop e sheet)) end-is
 
-  -- it lies within the sheet
+  -- It lies within the sheet.
   within-sheet : c .before .before .before .loop .end + c .read-block .result .size ≤ length sheet
   within-sheet = rw end-is (block-fits sheet i (c .read-block .result) found (omega (arith, end-is)))
 

@@ -15,16 +15,16 @@ use Rattle.reading.specs.Reading.{entriesAt}
 use Rattle.reading.proofs.read_entries.Statement.{statement}
 use Rattle.reading.proofs.read_entries.Tie as tie
 
--- one code more
+-- One code more.
 more : (f : ℕ → ℕ) (xs : List ℕ) (j x : ℕ) → xs ≡ row 0 mostEntries f j → x ≡ f j → set xs j x ≡ row 0 mostEntries f (j + 1)
 unfolding row
 more f xs j x e d = rw (add-one, e, d)
 
 abbrev Inv-loop : tie.InvT-loop
-Inv-loop sheet at m entries₀ j₀ entries j = (j ≤ m) × (entries ≡ entriesAt sheet at j)
+Inv-loop sheet place m entries₀ j₀ entries j = (j ≤ m) × (entries ≡ entriesAt sheet place j)
 
 abbrev μ-loop : tie.MeasureT-loop
-μ-loop sheet at m entries₀ j₀ entries j = m - j
+μ-loop sheet place m entries₀ j₀ entries j = m - j
 
 loop-holds : tie.Need-loop-holds Inv-loop μ-loop
 unfolding row
@@ -33,20 +33,20 @@ loop-holds c = (omega arith, refl)
 cast-entries : tie.Need-cast-entries Inv-loop μ-loop
 cast-entries c =
     let a = c .before .before .before .before .args in
-    omega (arith, c .one .ensures, field-lt (now (a .sheet)) (a .at + 4 * c .before .before .loop .j) 4)
+    omega (arith, c .one .ensures, field-lt (now (a .sheet)) (a .place + 4 * c .before .before .loop .j) 4)
 
 loop-again : tie.Need-loop-again Inv-loop μ-loop
 loop-again c =
     let a = c .before .before .before .before .args in
     let l = c .before .before .loop in
-    (omega arith, more (λ j. fieldAt (now (a .sheet)) (a .at + 4 * j) 4) (l .entries) (l .j) (c .one .result) (l .inv .1) (c .one .ensures))
+    (omega arith, more (λ j. fieldAt (now (a .sheet)) (a .place + 4 * j) 4) (l .entries) (l .j) (c .one .result) (l .inv .1) (c .one .ensures))
 
 returns : tie.Need-returns Inv-loop μ-loop
 returns c =
     let a = c .before .before .before .args in
     let l = c .before .loop in
     let e : l .j ≡ a .m = omega arith in
-    l .inv .1 ∙ ap (entriesAt (now (a .sheet)) (a .at)) e
+    l .inv .1 ∙ ap (entriesAt (now (a .sheet)) (a .place)) e
 
 pub read-entries-spec : {M : Type 1} → statement M
 read-entries-spec =

@@ -14,7 +14,7 @@ use Rattle.reading.specs.Reading.{editionIn, componentCount, lengthIn, h
 use Rattle.reading.proofs.read_head.Statement.{statement}
 use Rattle.reading.proofs.read_head.Tie as tie
 
--- after the head's three fields were read
+-- After the head's three fields were read.
 module _ (c : tie.After-struct-known) where
   abbrev sheet : List ℕ
   sheet = now (c .before .before .before .before .args .sheet)

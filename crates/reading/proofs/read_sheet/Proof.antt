@@ -22,11 +22,11 @@ use Rattle.reading.proofs.Decided.{reads-refused}
 use Rattle.reading.proofs.read_sheet.Statement.{statement}
 use Rattle.reading.proofs.read_sheet.Tie as tie
 
--- what the head's number says
+-- What the head's number says.
 head-says : (c : tie.After-read-head) → c .read-head .result .number ≡ firstBroken (headTests (now (c .before .before .args .sheet)))
 head-says c = ap (λ (h : Head). h .number) (c .read-head .ensures) ∙ head-number (now (c .before .before .args .sheet))
 
--- where 1, 2 and 3 are kept
+-- Where 1, 2 and 3 are kept.
 module _ (c : tie.Else1) where
   abbrev sheet : List ℕ
   sheet = now (c .before .before .before .before .args .sheet)
@@ -46,37 +46,37 @@ module _ (c : tie.Else1) where
   counted-n : Counted n
   counted-n = rw count-is (has .counted)
 
--- where 4 and 5 are kept too
+-- Where 4 and 5 are kept too.
 module _ (c : tie.Else2) where
-  abbrev at : tie.Else1
-  at = c .before .before .before
+  abbrev begun : tie.Else1
+  begun = c .before .before .before
 
   abbrev blocks : Blocks
   blocks = c .before .before .read-blocks .result
 
-  laid : Every Unbroken (layoutTests (sheet at))
-  laid = no-number 5 (layoutTests (sheet at)) refl (sym (c .before .layout-number .ensures) ∙ c .if2 .left)
+  laid : Every Unbroken (layoutTests (sheet begun))
+  laid = no-number 5 (layoutTests (sheet begun)) refl (sym (c .before .layout-number .ensures) ∙ c .if2 .left)
 
-  uncut : (anyCut (sheet at) (n at) ≡ false) × (startOf (sheet at) (n at) + n at ≡ length (sheet at))
-  uncut = layout-uncut (sheet at) (n at) (count-is at) (four laid)
+  uncut : (anyCut (sheet begun) (n begun) ≡ false) × (startOf (sheet begun) (n begun) + n begun ≡ length (sheet begun))
+  uncut = layout-uncut (sheet begun) (n begun) (count-is begun) (four laid)
     where
-      four : Every Unbroken (layoutTests (sheet at)) → badLayout (sheet at) ≡ false
+      four : Every Unbroken (layoutTests (sheet begun)) → badLayout (sheet begun) ≡ false
       four (more e es) = e
 
-  blocks-are : blocks ≡ uncutBlocks (sheet at) (n at)
-  blocks-are = c .before .before .read-blocks .ensures ∙ blocks-uncut (sheet at) (n at) (uncut .0)
+  blocks-are : blocks ≡ uncutBlocks (sheet begun) (n begun)
+  blocks-are = c .before .before .read-blocks .ensures ∙ blocks-uncut (sheet begun) (n begun) (uncut .0)
 
-  ends : blocks .end + n at ≡ length (sheet at)
-  ends = ap (λ (b : Blocks). b .end + n at) blocks-are ∙ uncut .1
+  ends : blocks .end + n begun ≡ length (sheet begun)
+  ends = ap (λ (b : Blocks). b .end + n begun) blocks-are ∙ uncut .1
 
-entries-are : (c : tie.After-read-entries) → c .read-entries .result ≡ entriesAt (sheet (at (c .before .before))) (8 * blocks (c .before .before) .end) (entryCount (n (at (c .before .before))))
+entries-are : (c : tie.After-read-entries) → c .read-entries .result ≡ entriesAt (sheet (begun (c .before .before))) (8 * blocks (c .before .before) .end) (entryCount (n (begun (c .before .before))))
 entries-are c = c .read-entries .ensures ∙ rw (c .before .entry-count .ensures)
 
--- the number of the rules 6 to 11 decides
-number-is : (c : tie.After-rules-number) → c .rules-number .result ≡ firstBroken (sheetTests (sheet (at (c .before .before .before .before))))
+-- The number of the rules 6 to 11 decides.
+number-is : (c : tie.After-rules-number) → c .rules-number .result ≡ firstBroken (sheetTests (sheet (begun (c .before .before .before .before))))
 number-is c =
     let d = c .before .before .before .before in
-    let k = at d in
+    let k = begun d in
     let s = sheet k in
     c .rules-number .ensures
     ∙ ap firstBroken (rules-read s (n k) (count-is k) (blocks d) (blocks-are d) (c .before .before .read-entries .result) (entries-are (c .before .before)) (counted-n k .most))
@@ -113,7 +113,7 @@ returns-2 c =
 
 read-entries-requires : tie.Need-read-entries-requires
 read-entries-requires c κs =
-    let k = at (c .before) in
+    let k = begun (c .before) in
     let m = counted-n k in
     let e = c .entry-count .ensures in
     (omega (arith, e, m), omega (arith, e, m, ends (c .before)), omega (arith, e, m, ends (c .before), has k .short))
@@ -121,20 +121,20 @@ read-entries-requires c κs =
 returns-3 : tie.Need-returns-3
 returns-3 c =
     c .refuse3 .ensures
-    ∙ reads-refused (sheet (at (c .before .before .before .before .before .before))) _ (c .before .if3 .taken) (number-is (c .before .before))
+    ∙ reads-refused (sheet (begun (c .before .before .before .before .before .before))) _ (c .before .if3 .taken) (number-is (c .before .before))
 
 returns-4 : tie.Need-returns-4
 unfolding readOf
 returns-4 c =
     let b = c .before .before in
     let d = b .before .before .before .before in
-    let k = at d in
+    let k = begun d in
     let p = plan-read (sheet k) (n k) (count-is k) (blocks d) (blocks-are d) (b .before .before .read-entries .result) (entries-are (b .before .before)) in
     ap (λ (x : Plan). reading 0 x) p ∙ ap (λ x. reading x (planIn (sheet k))) (sym (c .before .if3 .left) ∙ number-is b)
 
 pub read-sheet-spec : {M : Type 1} → statement M
 read-sheet-spec =
     tie.close (tie.spec (λ c κs. search needs) (λ c κs. search needs) returns (λ c κs. (omega (arith, counted-n c .most), has c .long))
-    layout-number-requires (λ c κs. search needs) returns-2 (λ c κs. counted-n (at c))
-    (λ c. omega (arith, ends (c .before), has (at (c .before)) .short)) read-entries-requires (λ c κs. counted-n (at (c .before .before .before)))
+    layout-number-requires (λ c κs. search needs) returns-2 (λ c κs. counted-n (begun c))
+    (λ c. omega (arith, ends (c .before), has (begun (c .before)) .short)) read-entries-requires (λ c κs. counted-n (begun (c .before .before .before)))
     (λ c κs. search needs) returns-3 returns-4)

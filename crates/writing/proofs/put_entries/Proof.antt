@@ -15,16 +15,16 @@ use Rattle.writing.proofs.put_entries.Statement.{statement}
 use Rattle.writing.proofs.put_entries.Tie as tie
 
 abbrev Inv-loop : tie.InvT-loop
-Inv-loop out₀ at n entries m j₀ out j =
-    (j ≤ m) × (putAll out (at + 4 * j) (codesLeft entries j (entryCount n)) ≡ putAll out₀ at (map (bits 4) (codesIn entries n))) × (length out ≡ length out₀)
+Inv-loop out₀ place n entries m j₀ out j =
+    (j ≤ m) × (putAll out (place + 4 * j) (codesLeft entries j (entryCount n)) ≡ putAll out₀ place (map (bits 4) (codesIn entries n))) × (length out ≡ length out₀)
 
 abbrev μ-loop : tie.MeasureT-loop
-μ-loop out₀ at n entries m j₀ out j = m - j
+μ-loop out₀ place n entries m j₀ out j = m - j
 
 loop-holds : tie.Need-loop-holds Inv-loop μ-loop
 loop-holds c =
     let a = c .before .before .args in
-    (omega arith, codes-start (a .t3) (now (a .out)) (a .at) (a .n), refl)
+    (omega arith, codes-start (a .t3) (now (a .out)) (a .place) (a .n), refl)
 
 loop-again : tie.Need-loop-again Inv-loop μ-loop
 loop-again c =
@@ -32,7 +32,7 @@ loop-again c =
     let a = l .before .before .before .args in
     let e = c .before .before .put-field .ensures in (
       omega arith,
-      codes-next (a .t3) (l .loop .out) _ (a .at) (l .loop .j) (entryCount (a .n)) (omega arith) e ∙ l .loop .inv .1,
+      codes-next (a .t3) (l .loop .out) _ (a .place) (l .loop .j) (entryCount (a .n)) (omega arith) e ∙ l .loop .inv .1,
       ap length e ∙ length-putAt _ _ _ _ ∙ l .loop .inv .2,
     )
 
@@ -40,7 +40,7 @@ returns : tie.Need-returns Inv-loop μ-loop
 returns c =
     let a = c .before .before .before .before .args in
     let l = c .before .loop in
-    sym (codes-end (a .t3) (l .out) (a .at + 4 * l .j) (l .j) (entryCount (a .n)) (omega arith)) ∙ l .inv .1
+    sym (codes-end (a .t3) (l .out) (a .place + 4 * l .j) (l .j) (entryCount (a .n)) (omega arith)) ∙ l .inv .1
 
 pub put-entries-spec : {M : Type 1} → statement M
 put-entries-spec =

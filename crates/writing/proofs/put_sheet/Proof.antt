@@ -10,7 +10,7 @@ use Rattle.writing.proofs.Sizes.{Sizes, sizes, parts-put}
 use Rattle.writing.proofs.put_sheet.Statement.{statement}
 use Rattle.writing.proofs.put_sheet.Tie as tie
 
--- the call at the places of the code, and the sizes of its plan
+-- The call at the places of the code, and the sizes of its plan.
 abbrev start : tie.After-put-three-arg → tie.Start
 start c = c .before .before .before
 

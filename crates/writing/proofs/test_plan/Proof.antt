@@ -21,7 +21,7 @@ use Rattle.writing.proofs.Accepted.{accepts-number, written-length, wri
 use Rattle.writing.proofs.test_plan.Statement.{statement}
 use Rattle.writing.proofs.test_plan.Tie as tie
 
--- where 3 and 4 are kept
+-- Where 3 and 4 are kept.
 module _ (c : tie.Else2) where
   abbrev plan : Plan
   plan = c .before .before .before .before .args .p
@@ -38,11 +38,11 @@ module _ (c : tie.Else2) where
   is-sized : Sized plan
   is-sized = sized plan three-kept four-kept
 
-  -- the other rules decide, then 15
+  -- The other rules decide, then 15.
   others-decide : numberOf plan room ≡ firstBroken (rules plan ++ (test 15 (ltb room (lengthOf plan)) ∷ []))
   others-decide = rw (three-kept, four-kept)
 
--- the number of the other rules
+-- The number of the other rules.
 number-is : (c : tie.After-rules-number) → c .rules-number .result ≡ firstBroken (rules (plan (c .before .before .before)))
 number-is c =
     let p = plan (c .before .before .before) in

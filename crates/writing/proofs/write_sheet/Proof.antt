@@ -14,7 +14,7 @@ use Rattle.writing.proofs.Accepted.{number-accepts, written-number, wri
 use Rattle.writing.proofs.write_sheet.Statement.{statement}
 use Rattle.writing.proofs.write_sheet.Tie as tie
 
--- after the tests
+-- After the tests.
 module _ (c : tie.After-test-plan) where
   abbrev plan : Plan
   plan = c .before .before .args .p
