@@ -10,12 +10,12 @@ use lib.Seq.{take-at, drop-at, drop-append-add}
 use borrow.Author.Tests.{lt-ltb, le-ltb}
 use Rattle.numbers.specs.Numbers.{bigEndian, onto, numberAt}
 use Rattle.numbers.proofs.Numbers.{read-back}
-use Rattle.sheet.specs.Reading.{sheetTests}
+use Rattle.plan.specs.Tests.{here}
 use Rattle.evaluate.specs.declared.Answer.{Answer}
-use Rattle.evaluate.specs.Answer.{callTests, answer}
+use Rattle.evaluate.specs.Answer.{answer}
 use Rattle.evaluate.specs.Store.{storeAfter}
-use Rattle.evaluate.specs.Demands.{here, by-test}
-use Rattle.evaluate.proofs.Numbers.{first-in-front, first-behind, least-number}
+use Rattle.evaluate.specs.Demands.{by-test}
+use Rattle.evaluate.proofs.Numbers.{first-in-front, first-behind}
 use Rattle.evaluate.proofs.Demands.{demand-1, answer-fits}
 use Rattle.drive.specs.Call.{answerBytes, encodeAnswer, numberReturned, listAfter, answerAfter, Call}
 
@@ -68,7 +68,7 @@ module _ (sheet : List ℕ) (demand allowance : ℕ) (list buffer : List ℕ) wh
           answer-unchanged = way .2;
           list-unchanged = way .1;
           twelve = λ u. way .0 ∙ D .refused-by 12 (omega arith) .1 (by-test (first-behind u (here refl refl)));
-          one-to-eleven = λ k f. way .0 ∙ D .refused-by k (least-number 11 (sheetTests sheet) refl f) .1 (by-test (first-in-front f _));
+          one-to-eleven = λ k l f. way .0 ∙ D .refused-by k l .1 (by-test (first-in-front f _));
         };
     long-enough = λ h k.
         let way = long-enough h in

@@ -7,11 +7,11 @@ use lib.Dec.{ltb}
 use lib.ListN.{length, drop}
 use Rattle.theory.specs.Sums.{Every}
 use Rattle.numbers.specs.Numbers.{bigEndian, numberAt}
-use Rattle.sheet.specs.Reading.{sheetTests}
+use Rattle.plan.specs.Tests.{Unbroken, First}
+use Rattle.reading.specs.Reading.{sheetTests}
 use Rattle.evaluate.specs.declared.Answer.{Answer}
 use Rattle.evaluate.specs.Answer.{answer}
 use Rattle.evaluate.specs.Store.{storeAfter}
-use Rattle.evaluate.specs.Demands.{Unbroken, First}
 
 -- the bytes that an answer takes
 abbrev pub answerBytes : ℕ
@@ -58,7 +58,7 @@ module _ (sheet : List ℕ) (demand allowance : ℕ) (list buffer : List ℕ) wh
     pub answer-unchanged : written ≡ buffer
     pub list-unchanged : listAfter sheet allowance list buffer ≡ list
     pub twelve : Every Unbroken (sheetTests sheet) → number ≡ 12
-    pub one-to-eleven : (k : ℕ) → First (sheetTests sheet) k → number ≡ k
+    pub one-to-eleven : (k : ℕ) → 0 < k → First (sheetTests sheet) k → number ≡ k
 
   -- Otherwise the number and the list are the call's, and its five other answers are read back from the answer buffer.
   pub record Written : Type 0 where

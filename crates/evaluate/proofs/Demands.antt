@@ -28,20 +28,22 @@ use Rattle.theory.proofs.Totals.{weights-driveList, total-le}
 use Rattle.theory.proofs.Range.{spans-choices}
 use Rattle.theory.proofs.Bounds.{bounds}
 use Rattle.records.proofs.Store.{settled-list}
-use Rattle.sheet.specs.declared.Plan.{Plan}
-use Rattle.sheet.specs.Tests.{firstBroken}
-use Rattle.sheet.specs.Kept.{Kept}
-use Rattle.sheet.proofs.Some.{none-broken}
-use Rattle.sheet.proofs.Accepted.{written-number}
-use Rattle.sheet.proofs.Theorems.{written-is-read, read-is-written, nothing-written, rest-kept}
+use Rattle.plan.specs.declared.Plan.{Plan}
+use Rattle.plan.specs.Tests.{firstBroken}
+use Rattle.plan.specs.Valid.{Valid}
+use Rattle.plan.proofs.Numbers.{none-broken, no-number, refused-by}
+use Rattle.writing.specs.Writing.{planTests}
+use Rattle.writing.proofs.Cleaned.{ignores-unused}
+use Rattle.writing.proofs.Accepted.{written-number}
+use Rattle.writing.proofs.Theorems.{written-is-read, read-is-written, nothing-written, rest-kept}
 use Rattle.run.specs.Run.{needed, filled, cleared}
-use Rattle.run.proofs.Entries.{components-count}
+use Rattle.plan.proofs.Entries.{components-count}
 use Rattle.evaluate.specs.declared.Answer.{Answer}
 use Rattle.evaluate.specs.Answer.{planOf, components, structure, callTests, evaluated, ending, refusal, answerOf, answer}
 use Rattle.evaluate.specs.Store.{storeBy}
 use Rattle.evaluate.specs.Demands.{Passed, Broken, by-test, by-join, answerAt, answered, after, all, list, Demand-1, Writer, Demand-2, RoundTrips, Demand-3}
-use Rattle.evaluate.proofs.Numbers.{first-is, is-first, plan-accepted, plan-refused, tests-kept, Ended, tested, stopped, passed, ended, answered-by, stored-by}
-use Rattle.evaluate.proofs.Finish.{Within, completes, within, leaves-by, drive-fits, early, late, above, plan-keeps}
+use Rattle.evaluate.proofs.Numbers.{tests-kept, Ended, tested, stopped, passed, ended, answered-by, stored-by}
+use Rattle.evaluate.proofs.Finish.{Within, completes, within, leaves-by, drive-fits, early, late, above, plan-valid}
 
 -- what a call ends in, and what its number says
 module _ (s : List ℕ) (demand allowance room : ℕ) where
@@ -57,13 +59,13 @@ module _ (s : List ℕ) (demand allowance room : ℕ) where
   passes P = rw (none-broken (P .tests), P .runs)
 
   was-broken : (k : ℕ) → 0 < k → {v : Evaluation Tree} → Ended s allowance room v → numberOf v ≡ k → Broken s allowance room k
-  was-broken k h (tested l m z) e = by-test (is-first (callTests s room) k h (z ∙ e))
+  was-broken k h (tested l m z) e = by-test (refused-by (callTests s room) k h .0 (z ∙ e))
   was-broken k h (stopped z l q) e = subst (Broken s allowance room) e (by-join (tests-kept s room z) l q)
   was-broken k h (passed z q) e = absurd (omega arith)
 
   breaks : (k : ℕ) → 0 < k → Broken s allowance room k → numberOf (ending s allowance room) ≡ k
   breaks k h (by-join t l q) = rw (none-broken t, q)
-  breaks k h (by-test f) = go k h (first-is f)
+  breaks k h (by-test f) = go k h (refused-by (callTests s room) k h .1 f)
     where
       go : (n : ℕ) → 0 < n → firstBroken (callTests s room) ≡ n → numberOf (ending s allowance room) ≡ n
       go zero h e = absurd (omega arith)
@@ -104,12 +106,14 @@ module _ (s : List ℕ) (demand allowance : ℕ) (store : List ℕ) where
 
 pub writer : (p : Plan) (buffer : List ℕ) → Writer p buffer
 writer p buffer =
+    let tests = planTests p (length buffer) in
     let same = written-number p (length buffer) in
     record {
-      accepted = (λ e. plan-accepted p (length buffer) .0 (sym same ∙ e), λ h. same ∙ plan-accepted p (length buffer) .1 h);
-      refused-by = λ k l. (λ e. plan-refused p (length buffer) k l .0 (sym same ∙ e), λ f. same ∙ plan-refused p (length buffer) k l .1 f);
-      nothing-written = λ k l e. nothing-written p buffer k l e;
+      accepted = (λ e. no-number 15 tests refl (sym same ∙ e), λ h. same ∙ none-broken h);
+      refused-by = λ k l. (λ e. refused-by tests k l .0 (sym same ∙ e), λ f. same ∙ refused-by tests k l .1 f);
+      nothing-written = nothing-written p buffer;
       rest-kept = rest-kept p buffer;
+      ignores-unused = ignores-unused p buffer;
     }
 
 pub round-trips : RoundTrips
@@ -132,11 +136,11 @@ module _ (s : List ℕ) (demand allowance : ℕ) (store : List ℕ) (e : (answer
   P : Passed s allowance (length store)
   P = demand-1 s demand allowance store .accepted .0 e
 
-  keeps : Kept (planOf s)
-  keeps = plan-keeps s demand allowance store (none-broken (P .tests))
+  valid : Valid (planOf s)
+  valid = plan-valid s demand allowance store (none-broken (P .tests))
 
   leaves : Leaves (components s) (structure s) (P .stack) (P .pairs)
-  leaves = leaves-by keeps allowance (P .stack) (P .pairs) (P .runs)
+  leaves = leaves-by valid allowance (P .stack) (P .pairs) (P .runs)
 
   answer-is : (d : ℕ) → answerAt s demand allowance store d ≡ answerOf (completed (P .stack) (P .pairs)) (structure s) (components s) d
   answer-is d = answered-by s allowance d (length store) (passes s demand allowance (length store) P)
@@ -149,20 +153,20 @@ module _ (s : List ℕ) (demand allowance : ℕ) (store : List ℕ) (e : (answer
       let total-is : (answered s demand allowance store) .total ≡ total (components s) = ap (λ (x : Answer). x .total) a in
       let n : (answered s demand allowance store) .intervals ≡ length l = ap (λ (x : Answer). x .intervals) a in
       let is : after s demand allowance store ≡ filled (needed (planOf s)) l store = demand-1 s demand allowance store .store-accepted e in
-      let fits = drive-fits keeps in
-      let six : length (components s) ≤ mostComponents = omega (arith, components-count (planOf s), keeps .most) in
+      let fits = drive-fits valid in
+      let six : length (components s) ≤ mostComponents = omega (arith, components-count (planOf s), valid .most) in
       record {
         total-is = total-is;
         belief-is = ap (λ (x : Answer). x .belief) a;
         plausibility-is = ap (λ (x : Answer). x .plausibility) a;
-        total-most = rw total-is (le-trans (total-le (every-map (λ c t. t .1) (keeps .totals))) (pow-le-pow-right {n = mostTotal} (omega arith) six));
-        spans = spans-choices (structure s) (keeps .inRange);
+        total-most = rw total-is (le-trans (total-le (every-map (λ c t. t .1) (valid .totals))) (pow-le-pow-right {n = mostTotal} (omega arith) six));
+        spans = spans-choices (structure s) (valid .inRange);
         list-length = n;
         list-is = is;
         list-read = rw (n, is) (settled-list (needed (planOf s)) store (fits .0) (fits .1));
         list-ordered = order-collect every;
         list-weight = λ low high. weightAt-collect low high every;
-        list-weights = weights-driveList (keeps .balanced) (structure s) ∙ sym total-is;
+        list-weights = weights-driveList (valid .balanced) (structure s) ∙ sym total-is;
         list-belief = λ d. belief-collect d every ∙ sym (ap (λ (x : Answer). x .belief) (answer-is d));
         list-plausibility = λ d. plausibility-collect d every ∙ sym (ap (λ (x : Answer). x .plausibility) (answer-is d));
         tree = leaves .tree;
@@ -179,7 +183,7 @@ module _ (s : List ℕ) (demand allowance : ℕ) (store : List ℕ) (e : (answer
       bounds-of (sym (demand-2 .total-is))
       (λ d. sym (ap (λ (x : Answer). x .belief) (answer-is d)))
       (λ d. sym (ap (λ (x : Answer). x .plausibility) (answer-is d)))
-      (bounds (structure s) (keeps .inRange))
+      (bounds (structure s) (valid .inRange))
 
 -- ---- the numbers of an answer fit 64 bits
 
@@ -209,7 +213,7 @@ module _ (s : List ℕ) (demand allowance : ℕ) (store : List ℕ) (h : allowan
         let l = list s demand allowance store in
         let t : weights l ≤ 1000000000000000000 = omega (arith, D .list-weights, D .total-most) in
         let L = leaves s demand allowance store e in
-        let p : length l ≤ weights l = length-le (rw (L .list) at (positive-collect (positive-outcomesOf (keeps s demand allowance store e .positive) (L .tree)))) in
+        let p : length l ≤ weights l = length-le (rw (L .list) at (positive-collect (positive-outcomesOf (valid s demand allowance store e .positive) (L .tree)))) in
         record {
           total = omega (arith, D .total-most);
           belief = omega (arith, D .list-belief demand, where-le (λ low high. leb demand low) l);

@@ -27,14 +27,14 @@ use Rattle.records.specs.Records.{encode, records, Under, speedLimit}
 use Rattle.records.specs.Shares.{sharesOf}
 use Rattle.records.proofs.Records.{length-encode}
 use Rattle.records.proofs.Store.{settled-list}
-use Rattle.sheet.specs.declared.Plan.{Plan}
-use Rattle.sheet.specs.Tests.{firstBroken}
-use Rattle.sheet.specs.Plan.{componentsOf, entriesOf}
-use Rattle.sheet.specs.Kept.{Kept}
-use Rattle.sheet.proofs.Theorems.{read-keeps}
+use Rattle.plan.specs.declared.Plan.{Plan}
+use Rattle.plan.specs.Tests.{firstBroken}
+use Rattle.plan.specs.Plan.{componentsOf, entriesOf}
+use Rattle.plan.specs.Valid.{Valid}
+use Rattle.writing.proofs.Theorems.{read-valid}
 use Rattle.run.specs.declared.Ran.{Ran}
 use Rattle.run.specs.Run.{needed, walked, ranOf, filled, cleared, storeOf}
-use Rattle.run.proofs.Entries.{components-count}
+use Rattle.plan.proofs.Entries.{components-count}
 use Rattle.run.proofs.Stacked.{fits-record}
 use Rattle.evaluate.specs.Answer.{planOf, components, structure, callTests, evaluated, ending, refusal, answer}
 use Rattle.evaluate.specs.Store.{storeAfter}
@@ -61,14 +61,14 @@ module _ (cs : List Component) (allowance : ℕ) where
       go false true r = refuses
       go false false r = r refl
 
--- ---- a plan that keeps the rules
+-- ---- a plan that valid the rules
 
 -- how the walk on lists ends, and how the evaluation
 pub data Ends (cs : List Component) (es : List Entry) : Evaluation (List Focal) → Evaluation Tree → Type 0 where
   stops : {k : ℕ} → (k ≡ 13) ⊎ (k ≡ 14) → Ends cs es (refused k) (refused k)
   leaves-one : {stack : List Tree} {pairs : ℕ} → Leaves cs es stack pairs → Ends cs es (completed (driveList es cs ∷ []) pairs) (completed stack pairs)
 
-module _ {p : Plan} (K : Kept p) where
+module _ {p : Plan} (K : Valid p) where
   abbrev cs : List Component
   cs = componentsOf p
 
@@ -143,12 +143,12 @@ module _ (s : List ℕ) (demand allowance : ℕ) (store : List ℕ) where
         → record { number = 0; total = u; belief = b .belief; plausibility = b .plausibility; pairs = r .pairs; intervals = r .intervals }
         ≡ answer s demand allowance (length store)
 
-  pub plan-keeps : firstBroken (callTests s (length store)) ≡ 0 → Kept (planOf s)
-  plan-keeps z = read-keeps s (tests-say s (length store) z .0)
+  pub plan-valid : firstBroken (callTests s (length store)) ≡ 0 → Valid (planOf s)
+  plan-valid z = read-valid s (tests-say s (length store) z .0)
 
   pub finish : firstBroken (callTests s (length store)) ≡ 0 → (r : Ran) (x : List ℕ)
       → r ≡ ranOf (walked (planOf s) allowance) → x ≡ storeOf (needed (planOf s)) (walked (planOf s) allowance) store → Finished r x
-  finish z r x e f = go (run-ends (plan-keeps z) allowance) refl e f
+  finish z r x e f = go (run-ends (plan-valid z) allowance) refl e f
     where
       go : {w : Evaluation (List Focal)} {v : Evaluation Tree} → Ends (components s) (structure s) w v → evaluated s allowance ≡ v
           → r ≡ ranOf w → x ≡ storeOf (needed (planOf s)) w store → Finished r x
@@ -164,7 +164,7 @@ module _ (s : List ℕ) (demand allowance : ℕ) (store : List ℕ) where
       go (leaves-one {stack = stack} {pairs = pairs} L) q e f =
           let m : r .intervals ≡ length list = ap (λ (y : Ran). y .intervals) e in
           let u : ending s allowance (length store) ≡ completed stack pairs = rw (z, q) in
-          let fits = drive-fits (plan-keeps z) in
+          let fits = drive-fits (plan-valid z) in
           let back : records (r .intervals) x ≡ list = rw (m, f) (settled-list (needed (planOf s)) store (fits .0) (fits .1)) in
           record {
             stored = f ∙ sym (stored-by s allowance store u);

@@ -2,7 +2,7 @@
 use Prim.Native.Nat.{ℕ, zero, suc, _≤_, _<_}
 use mathlib.Core.Path.{_≡_, refl, sym, ap, _∙_}
 use mathlib.Core.Bool.{Bool, true, false, cond}
-use mathlib.Core.Logic.{_⊎_, _↔_}
+use mathlib.Core.Logic.{_⊎_}
 use mathlib.Core.List.{List, [], _∷_, _++_}
 use native.Mathlib.Decide.{ℕ-discrete}
 use native.Mathlib.Omega.{arith}
@@ -13,34 +13,17 @@ use Rattle.theory.specs.Sums.{Every}
 use Rattle.theory.specs.Structure.{Tree}
 use Rattle.theory.specs.Lists.{driveList}
 use Rattle.theory.specs.Evaluation.{Evaluation, completed, refused}
-use Rattle.theory.proofs.Every.{every-map}
 use Rattle.theory.proofs.Method.{evaluate-refused}
-use Rattle.sheet.specs.declared.Plan.{Plan}
-use Rattle.sheet.specs.declared.Reading.{Reading}
-use Rattle.sheet.specs.Tests.{Test, test, firstBroken, outside, some}
-use Rattle.sheet.specs.Reading.{sheetTests, reading, planIn, readOf}
-use Rattle.sheet.specs.Writing.{planTests, numberOf}
-use Rattle.sheet.proofs.Some.{each, within, all-kept, none-broken}
-use Rattle.sheet.proofs.Accepted.{first-found, first-none}
+use Rattle.reading.specs.declared.Reading.{Reading}
+use Rattle.plan.specs.Tests.{Test, test, firstBroken, Unbroken, First, here, later}
+use Rattle.reading.specs.Reading.{sheetTests, readOf}
+use Rattle.reading.proofs.Decided.{read-number}
+use Rattle.plan.proofs.Numbers.{no-number, most-number, first-found, first-none}
 use Rattle.run.specs.Run.{needed}
 use Rattle.evaluate.specs.Answer.{planOf, components, structure, callTests, testedOf, evaluated, testedFirst, ending, answerOf, answer}
 use Rattle.evaluate.specs.Store.{storeBy, storeAfter}
-use Rattle.evaluate.specs.Demands.{Unbroken, First, here, later}
 
--- the first broken test
-pub first-is : {ts : List Test} {k : ℕ} → First ts k → firstBroken ts ≡ k
-first-is (here q e) = rw q e
-first-is (later q r) = rw q (first-is r)
-
-pub is-first : (ts : List Test) (k : ℕ) → 0 < k → firstBroken ts ≡ k → First ts k
-is-first [] k h e = absurd (omega arith)
-is-first (t ∷ ts) k h e = go (t .broken) refl e (is-first ts k h)
-  where
-    go : (b : Bool) → t .broken ≡ b → firstBroken (t ∷ ts) ≡ k → (firstBroken ts ≡ k → First ts k) → First (t ∷ ts) k
-    go true q e rest = here q (rw q at e)
-    go false q e rest = later q (rest (rw q at e))
-
--- in a longer list
+-- the first broken test in a longer list
 pub first-in-front : {ts : List Test} {k : ℕ} → First ts k → (us : List Test) → First (ts ++ us) k
 first-in-front (here q e) us = here q e
 first-in-front (later q r) us = later q (first-in-front r us)
@@ -49,58 +32,16 @@ pub first-behind : {ts us : List Test} {k : ℕ} → Every Unbroken ts → First
 first-behind Every.none f = f
 first-behind (Every.more q r) f = later q (first-behind r f)
 
-at-least : {ts : List Test} {k : ℕ} → Every (λ t. 1 ≤ t .number) ts → First ts k → 0 < k
-at-least (Every.more p r) (here q e) = omega arith
-at-least (Every.more p r) (later q f) = at-least r f
-
-at-most : (n : ℕ) {ts : List Test} → Every (λ t. t .number ≤ n) ts → firstBroken ts ≤ n
-at-most n Every.none = omega arith
-at-most n (Every.more {x = t} {xs = ts} p r) = go (t .broken) refl (at-most n r)
-  where
-    go : (b : Bool) → t .broken ≡ b → firstBroken ts ≤ n → firstBroken (t ∷ ts) ≤ n
-    go true q h = rw q p
-    go false q h = rw q h
-
--- tests with numbers from 1 to n, by a test of all
-module _ (n : ℕ) (ts : List Test) (e : some (λ t. outside 1 n (t .number)) ts ≡ false) where
-  numbers : Every (λ t. (1 ≤ t .number) × (t .number ≤ n)) ts
-  numbers = each (λ t. outside 1 n (t .number)) ts (λ t h. within 1 n (t .number) h) e
-
-  pub no-number : firstBroken ts ≡ 0 → Every Unbroken ts
-  no-number = all-kept ts (every-map (λ t h. h .0) numbers)
-
-  pub least-number : {k : ℕ} → First ts k → 0 < k
-  least-number = at-least (every-map (λ t h. h .0) numbers)
-
-  pub most-number : firstBroken ts ≤ n
-  most-number = at-most n (every-map (λ t h. h .1) numbers)
-
-reading-number : (n : ℕ) (p : Plan) → (reading n p) .number ≡ n
-reading-number zero p = refl
-reading-number (suc n) p = refl
-
--- of a plan to be written
-module _ (p : Plan) (room : ℕ) where
-  pub plan-accepted : (numberOf p room ≡ 0) ↔ Every Unbroken (planTests p room)
-  plan-accepted = (no-number 15 (planTests p room) refl, none-broken)
-
-  pub plan-refused : (k : ℕ) → 0 < k → (numberOf p room ≡ k) ↔ First (planTests p room) k
-  plan-refused k h = (is-first (planTests p room) k h, first-is)
-
 -- of a call
 module _ (s : List ℕ) (room : ℕ) where
   abbrev twelve : List Test
   twelve = test 12 (ltb room (needed (planOf s))) ∷ []
 
-  read-number : (readOf s) .number ≡ firstBroken (sheetTests s)
-  unfolding readOf
-  read-number = reading-number (firstBroken (sheetTests s)) (planIn s)
-
   number-unread : ((readOf s) .number ≡ 0 → ⊥) → firstBroken (callTests s room) ≡ (readOf s) .number
-  number-unread h = first-found (sheetTests s) twelve (λ z. h (read-number ∙ z)) ∙ sym read-number
+  number-unread h = first-found (sheetTests s) twelve (λ z. h (read-number s ∙ z)) ∙ sym (read-number s)
 
   number-read : (readOf s) .number ≡ 0 → firstBroken (callTests s room) ≡ cond (ltb room (needed (planOf s))) 12 0
-  number-read z = first-none twelve (no-number 11 (sheetTests s) refl (sym read-number ∙ z))
+  number-read z = first-none twelve (no-number 11 (sheetTests s) refl (sym (read-number s) ∙ z))
 
   pub tests-kept : firstBroken (callTests s room) ≡ 0 → Every Unbroken (callTests s room)
   tests-kept = no-number 12 (callTests s room) refl

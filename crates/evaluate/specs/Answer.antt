@@ -10,11 +10,11 @@ use Rattle.theory.specs.Structure.{Tree}
 use Rattle.theory.specs.Choices.{outcomes, belief, plausibility}
 use Rattle.theory.specs.Lists.{driveList}
 use Rattle.theory.specs.Evaluation.{Evaluation, completed, refused, evaluate}
-use Rattle.sheet.specs.declared.Plan.{Plan}
-use Rattle.sheet.specs.declared.Reading.{Reading}
-use Rattle.sheet.specs.Tests.{Test, test, firstBroken}
-use Rattle.sheet.specs.Plan.{componentsOf, entriesOf}
-use Rattle.sheet.specs.Reading.{sheetTests, readOf}
+use Rattle.plan.specs.declared.Plan.{Plan}
+use Rattle.reading.specs.declared.Reading.{Reading}
+use Rattle.plan.specs.Tests.{Test, test, firstBroken}
+use Rattle.plan.specs.Plan.{componentsOf, entriesOf}
+use Rattle.reading.specs.Reading.{sheetTests, readOf}
 use Rattle.run.specs.Run.{needed}
 use Rattle.evaluate.specs.declared.Answer.{Answer}
 

@@ -1,8 +1,8 @@
 -- The three demands, as statements about what the contracts of the call, the reader and the writer name: `answer`, `storeAfter`, `readOf`,
--- `writtenOf`, `bytesAfter`. They are proved in proofs/Demands.antt. Assumes nothing.
+-- `writtenOf`, `bytesAfter`. They are proved in proofs/Demands.antt; what the reader decides by itself is reading's `Decided`. Assumes
+-- nothing.
 use Prim.Native.Nat.{ℕ, _^_, _≤_, _<_}
 use mathlib.Core.Path.{_≡_}
-use mathlib.Core.Bool.{true, false}
 use mathlib.Core.Logic.{_⊎_, _↔_}
 use mathlib.Core.List.{List, [], _∷_, _++_}
 use lib.ListN.{length, take, drop}
@@ -16,23 +16,15 @@ use Rattle.theory.specs.Bounds.{Bounds}
 use Rattle.theory.specs.Limits.{mostTotal, mostComponents}
 use Rattle.numbers.specs.Numbers.{Bytes}
 use Rattle.records.specs.Records.{records}
-use Rattle.sheet.specs.declared.Plan.{Plan}
-use Rattle.sheet.specs.Tests.{Test}
-use Rattle.sheet.specs.Plan.{cleanedPlan}
-use Rattle.sheet.specs.Reading.{readOf}
-use Rattle.sheet.specs.Writing.{planTests, writtenOf, bytesAfter}
+use Rattle.plan.specs.declared.Plan.{Plan}
+use Rattle.plan.specs.Tests.{Unbroken, First}
+use Rattle.plan.specs.Plan.{cleanedPlan}
+use Rattle.reading.specs.Reading.{readOf}
+use Rattle.writing.specs.Writing.{planTests, writtenOf, bytesAfter, IgnoresUnused}
 use Rattle.run.specs.Run.{needed, filled, cleared}
 use Rattle.evaluate.specs.declared.Answer.{Answer}
 use Rattle.evaluate.specs.Answer.{planOf, components, structure, callTests, evaluated, refusal, answer}
 use Rattle.evaluate.specs.Store.{storeAfter}
-
-abbrev pub Unbroken : Test → Type 0
-Unbroken t = t .broken ≡ false
-
--- k is the number of a test that is broken, and none before it is
-pub data First : List Test → ℕ → Type 0 where
-  here : {t : Test} {ts : List Test} {k : ℕ} → t .broken ≡ true → t .number ≡ k → First (t ∷ ts) k
-  later : {t : Test} {ts : List Test} {k : ℕ} → Unbroken t → First ts k → First (t ∷ ts) k
 
 -- No rule is broken: none of 1 to 12 by the tests, and the plan runs past every join without 13 or 14.
 pub record Passed (s : List ℕ) (allowance room : ℕ) : Type 0 where
@@ -110,13 +102,14 @@ module _ (s : List ℕ) (demand allowance : ℕ) (store : List ℕ) where
   Demand-3 = Bounds (structure s) (components s) (answered .total) (λ d. answerAt d .belief) (λ d. answerAt d .plausibility)
 
 -- Demand 1 for the writer, for every plan and buffer: its tests decide in the same way; refused it writes nothing, accepted it leaves the
--- bytes behind the sheet.
+-- bytes behind the sheet, and it ignores unused places.
 pub record Writer (p : Plan) (buffer : List ℕ) : Type 0 where
   pub accepted : ((writtenOf p (length buffer)) .number ≡ 0) ↔ Every Unbroken (planTests p (length buffer))
   pub refused-by : (k : ℕ) → 0 < k → ((writtenOf p (length buffer)) .number ≡ k) ↔ First (planTests p (length buffer)) k
   pub nothing-written : (k : ℕ) → 0 < k → (writtenOf p (length buffer)) .number ≡ k → ((writtenOf p (length buffer)) .length ≡ 0) × (bytesAfter p buffer ≡ buffer)
   pub rest-kept : (writtenOf p (length buffer)) .number ≡ 0
       → drop ((writtenOf p (length buffer)) .length) (bytesAfter p buffer) ≡ drop ((writtenOf p (length buffer)) .length) buffer
+  pub ignores-unused : IgnoresUnused p buffer
 
 -- Demand 2, the sheets: a written sheet reads as its plan, in the used places, and a read one, of bytes, is written back to its bytes.
 pub record RoundTrips : Type 0 where

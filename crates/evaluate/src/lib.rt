@@ -2,12 +2,12 @@
 ghost use mathlib.Core.Path.{_≡_};
 ghost use lib.ListN.{length};
 ghost use Rattle.theory.specs.Focal.{total};
-ghost use Rattle.sheet.specs.Plan.{componentsOf};
-ghost use Rattle.sheet.specs.Kept.{Kept};
+ghost use Rattle.plan.specs.Plan.{componentsOf};
+ghost use Rattle.plan.specs.Valid.{Valid};
 ghost use Rattle.evaluate.specs.Answer.{refusal, testedOf, answer};
 ghost use Rattle.evaluate.specs.Store.{storeAfter};
-use sheet::Plan;
-use sheet::Reading;
+use plan::Plan;
+use reading::Reading;
 
 // What a call answers: the number of the refusal and zeros, or 0, the total U, the two shares of it, the pairs formed and the length
 // of the drive's list.
@@ -37,7 +37,7 @@ fn refuse(number: u8) -> Answer
 fn tested(sheet: &[u8], room: usize) -> Reading
     ensures { λ r. ⌜ r ≡ testedOf (now (sheet .entry)) room ⌝ }
 {
-    let r = sheet::read_sheet(sheet);
+    let r = reading::read_sheet(sheet);
     if r.number != 0 {
         return r;
     }
@@ -53,7 +53,7 @@ fn tested(sheet: &[u8], room: usize) -> Reading
 
 // U: the product of all T.
 fn total_of(p: Plan) -> u64
-    requires { ⌜ Kept p ⌝ }
+    requires { ⌜ Valid p ⌝ }
     ensures { λ r. ⌜ r ≡ total (componentsOf p) ⌝ }
 {
     let n = p.count;

@@ -4,15 +4,15 @@ use mathlib.Core.Path.{_≡_, sym, ap, subst, _∙_}
 use mathlib.Core.List.{List}
 use lib.ListN.{length}
 use Rattle.theory.specs.Focal.{total}
-use Rattle.sheet.specs.declared.Plan.{Plan}
-use Rattle.sheet.specs.declared.Reading.{Reading}
-use Rattle.sheet.specs.Tests.{firstBroken}
-use Rattle.sheet.specs.Plan.{componentsOf}
-use Rattle.sheet.specs.Kept.{Kept}
+use Rattle.plan.specs.declared.Plan.{Plan}
+use Rattle.reading.specs.declared.Reading.{Reading}
+use Rattle.plan.specs.Tests.{firstBroken}
+use Rattle.plan.specs.Plan.{componentsOf}
+use Rattle.plan.specs.Valid.{Valid}
 use Rattle.run.specs.Run.{needed, walked, ranOf, storeOf}
 use Rattle.evaluate.specs.Answer.{planOf, callTests, refusal}
 use Rattle.evaluate.proofs.Numbers.{tests-say, tested-is}
-use Rattle.evaluate.proofs.Finish.{tested-call, Finished, plan-keeps, finish}
+use Rattle.evaluate.proofs.Finish.{tested-call, Finished, plan-valid, finish}
 use borrow.Author.Needs.{needs}
 use Rattle.evaluate.proofs.bounds.Statement.{statement}
 use Rattle.evaluate.proofs.bounds.Tie as tie
@@ -38,8 +38,8 @@ module _ (c : tie.After-tested) where
   plan-is = ap (λ (r : Reading). r .plan) (c .tested .ensures ∙ tested-is sheet (length store))
 
   module _ (z : c .tested .result .number ≡ 0) where
-    keeps : Kept p
-    keeps = rw plan-is (plan-keeps sheet (start .args .demand) (start .args .allowance) store (sym number-is ∙ z))
+    valid : Valid p
+    valid = rw plan-is (plan-valid sheet (start .args .demand) (start .args .allowance) store (sym number-is ∙ z))
 
 -- past the run
 finished : (c : tie.After-run-plan) → let a = c .before .before .before .before .before in
@@ -63,7 +63,7 @@ run-plan-requires : tie.Need-run-plan-requires
 run-plan-requires c κs =
     let a = c .before .before .before .before in
     let z = c .before .before .if1 .left in
-    (keeps a z, subst (λ (q : Plan). needed q ≤ length (store a)) (sym (plan-is a)) (tests-say (sheet a) (length (store a)) (sym (number-is a) ∙ z) .1))
+    (valid a z, subst (λ (q : Plan). needed q ≤ length (store a)) (sym (plan-is a)) (tests-say (sheet a) (length (store a)) (sym (number-is a) ∙ z) .1))
 
 returns-2 : tie.Need-returns-2
 returns-2 c =
@@ -76,7 +76,7 @@ shares-at-requires c κs = finished (c .before .before .before .before .before) 
 total-of-requires : tie.Need-total-of-requires
 total-of-requires c κs =
     let e = c .before .before .before .before .before .before .before .before .before in
-    keeps (e .before .before) (e .if1 .left)
+    valid (e .before .before) (e .if1 .left)
 
 returns-3 : tie.Need-returns-3
 returns-3 c =

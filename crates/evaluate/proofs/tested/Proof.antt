@@ -3,9 +3,9 @@ use mathlib.Core.Path.{_≡_, sym, ap, _∙_}
 use mathlib.Core.List.{List}
 use Prim.Native.Nat.{ℕ}
 use native.Mathlib.Omega.{arith}
-use Rattle.sheet.specs.declared.Plan.{Plan}
-use Rattle.sheet.specs.declared.Reading.{Reading}
-use Rattle.sheet.specs.Reading.{readOf}
+use Rattle.plan.specs.declared.Plan.{Plan}
+use Rattle.reading.specs.declared.Reading.{Reading}
+use Rattle.reading.specs.Reading.{readOf}
 use Rattle.evaluate.proofs.Numbers.{tested-unread, tested-short, tested-kept}
 use borrow.Author.Needs.{needs}
 use Rattle.evaluate.proofs.tested.Statement.{statement}

@@ -10,11 +10,11 @@ use Rattle.theory.specs.Lists.{noComponent}
 use Rattle.theory.specs.declared.Component.{Component}
 use Rattle.theory.proofs.Every.{index-of-every, every-map}
 use Rattle.theory.proofs.Totals.{thousands}
-use Rattle.sheet.specs.declared.Plan.{Plan}
-use Rattle.sheet.specs.Plan.{componentAt, componentsOf}
-use Rattle.sheet.proofs.Loops.{from, from-zero, from-next, from-end}
-use Rattle.sheet.specs.Kept.{Kept}
-use Rattle.run.proofs.Entries.{components-count, component-is}
+use Rattle.plan.specs.declared.Plan.{Plan}
+use Rattle.plan.specs.Plan.{componentAt, componentsOf}
+use Rattle.plan.proofs.Loops.{from, from-zero, from-next, from-end}
+use Rattle.plan.specs.Valid.{Valid}
+use Rattle.plan.proofs.Entries.{components-count, component-is}
 use borrow.Author.Needs.{needs}
 use Rattle.evaluate.proofs.total_of.Statement.{statement}
 use Rattle.evaluate.proofs.total_of.Tie as tie
@@ -23,7 +23,7 @@ use Rattle.evaluate.proofs.total_of.Tie as tie
 abbrev rest : Plan → ℕ → List Component
 rest p i = map (componentAt p) (from i (p .count))
 
-small : {p : Plan} → Kept p → (i : ℕ) → i < p .count → (componentAt p i) .total ≤ 1000
+small : {p : Plan} → Valid p → (i : ℕ) → i < p .count → (componentAt p i) .total ≤ 1000
 small {p} K i h = rw (component-is p i h) at (index-of-every noComponent (every-map (λ c r. r .1) (K .totals)) i (omega (arith, components-count p)))
 
 abbrev Inv-loop : tie.InvT-loop
