@@ -63,12 +63,12 @@ module _ (sheet : List ℕ) (demand allowance : ℕ) (list buffer : List ℕ) wh
   call = record {
     too-short = λ h.
         let way = too-short h in
-        let D = demand-1 sheet demand allowance [] in
+        let first = demand-1 sheet demand allowance [] in
         record {
           answer-unchanged = way .2;
           list-unchanged = way .1;
-          twelve = λ u. way .0 ∙ D .refused-by 12 (omega arith) .1 (by-test (first-behind u (here refl refl)));
-          one-to-eleven = λ k l f. way .0 ∙ D .refused-by k l .1 (by-test (first-in-front f _));
+          twelve = λ u. way .0 ∙ first .refused-by 12 (omega arith) .1 (by-test (first-behind u (here refl refl)));
+          one-to-eleven = λ k l f. way .0 ∙ first .refused-by k l .1 (by-test (first-in-front f _));
         };
     long-enough = λ h k.
         let way = long-enough h in

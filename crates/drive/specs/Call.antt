@@ -13,7 +13,7 @@ use Rattle.evaluate.specs.declared.Answer.{Answer}
 use Rattle.evaluate.specs.Answer.{answer}
 use Rattle.evaluate.specs.Store.{storeAfter}
 
--- the bytes that an answer takes
+-- The bytes that an answer takes.
 abbrev pub answerBytes : ℕ
 answerBytes = 40
 
@@ -29,15 +29,15 @@ room list buffer = cond (ltb (length buffer) answerBytes) 0 (length list)
 abbrev pub called : List ℕ → ℕ → ℕ → List ℕ → List ℕ → Answer
 called sheet demand allowance list buffer = answer sheet demand allowance (room list buffer)
 
--- the number returned
+-- The number returned.
 unfoldable pub numberReturned : List ℕ → ℕ → ℕ → List ℕ → List ℕ → ℕ
 numberReturned sheet demand allowance list buffer = (called sheet demand allowance list buffer) .number
 
--- the list buffer afterwards: unchanged where the answer buffer is too short
+-- The list buffer afterwards: unchanged where the answer buffer is too short.
 unfoldable pub listAfter : List ℕ → ℕ → List ℕ → List ℕ → List ℕ
 listAfter sheet allowance list buffer = cond (ltb (length buffer) answerBytes) list (storeAfter sheet allowance list)
 
--- the answer buffer afterwards: unchanged where it is too short; else the answer at its front, and the bytes behind untouched
+-- The answer buffer afterwards: unchanged where it is too short; else the answer at its front, and the bytes behind untouched.
 unfoldable pub answerAfter : List ℕ → ℕ → ℕ → List ℕ → List ℕ → List ℕ
 answerAfter sheet demand allowance list buffer =
     cond (ltb (length buffer) answerBytes) buffer (encodeAnswer (called sheet demand allowance list buffer) ++ drop answerBytes buffer)

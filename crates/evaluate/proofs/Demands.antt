@@ -9,7 +9,6 @@ use native.Mathlib.Decide.{ℕ-discrete}
 use native.Mathlib.Omega.{arith}
 use lib.Dec.{leb}
 use lib.ListN.{length}
-use borrow.Author.Tests.{ne-eqb}
 use Rattle.theory.specs.declared.Entry.{Entry}
 use Rattle.theory.specs.declared.Component.{Component}
 use Rattle.theory.specs.Structure.{Tree}
@@ -39,7 +38,7 @@ use Rattle.writing.proofs.Theorems.{written-is-read, read-is-written, nothing-w
 use Rattle.run.specs.Run.{needed, filled, cleared}
 use Rattle.plan.proofs.Entries.{components-count}
 use Rattle.evaluate.specs.declared.Answer.{Answer}
-use Rattle.evaluate.specs.Answer.{planOf, components, structure, callTests, evaluated, ending, refusal, answerOf, answer}
+use Rattle.evaluate.specs.Answer.{planOf, components, structure, callTests, ending, refusal, answerOf}
 use Rattle.evaluate.specs.Store.{storeBy}
 use Rattle.evaluate.specs.Demands.{Passed, Broken, by-test, by-join, answerAt, answered, after, all, list, Demand-1, Writer, Demand-2, RoundTrips, Demand-3}
 use Rattle.evaluate.proofs.Numbers.{tests-kept, Ended, tested, stopped, passed, ended, answered-by, stored-by}
@@ -55,8 +54,8 @@ module _ (s : List ℕ) (demand allowance room : ℕ) where
   was-passed (stopped {k = k} z l q) e = absurd (omega (arith, above k l))
   was-passed (passed {stack = stack} {pairs = pairs} z q) e = record { tests = tests-kept s room z; stack = stack; pairs = pairs; runs = q }
 
-  pub passes : (P : Passed s allowance room) → ending s allowance room ≡ completed (P .stack) (P .pairs)
-  passes P = rw (none-broken (P .tests), P .runs)
+  pub passes : (pass : Passed s allowance room) → ending s allowance room ≡ completed (pass .stack) (pass .pairs)
+  passes pass = rw (none-broken (pass .tests), pass .runs)
 
   was-broken : (k : ℕ) → 0 < k → {v : Evaluation Tree} → Ended s allowance room v → numberOf v ≡ k → Broken s allowance room k
   was-broken k h (tested l m z) e = by-test (refused-by (callTests s room) k h .0 (z ∙ e))
@@ -96,7 +95,7 @@ module _ (s : List ℕ) (demand allowance : ℕ) (store : List ℕ) where
       let number : (answered s demand allowance store) .number ≡ numberOf s demand allowance room (ending s allowance room) = ap (λ (a : Answer). a .number) same in
       let l = list s demand allowance store in
       record {
-        accepted = (λ e. was-passed s demand allowance room end (sym number ∙ e), λ P. ap (λ (a : Answer). a .number) (answered-by s allowance demand room (passes s demand allowance room P)));
+        accepted = (λ e. was-passed s demand allowance room end (sym number ∙ e), λ pass. ap (λ (a : Answer). a .number) (answered-by s allowance demand room (passes s demand allowance room pass)));
         refused-by = λ k h. (λ e. was-broken s demand allowance room k h end (sym number ∙ e), λ b. number ∙ breaks s demand allowance room k h b);
         zeros = λ k h e. same ∙ zeros s demand allowance room k h (ending s allowance room) (sym number ∙ e);
         store-accepted = λ e. stored-by s allowance store (passes s demand allowance room (was-passed s demand allowance room end (sym number ∙ e)));
@@ -133,17 +132,17 @@ bounds-of {es} {cs} {v} {w} {f} {g} {h} {k} e p q b = record {
 
 -- an accepted call
 module _ (s : List ℕ) (demand allowance : ℕ) (store : List ℕ) (e : (answered s demand allowance store) .number ≡ 0) where
-  P : Passed s allowance (length store)
-  P = demand-1 s demand allowance store .accepted .0 e
+  pass : Passed s allowance (length store)
+  pass = demand-1 s demand allowance store .accepted .0 e
 
   valid : Valid (planOf s)
-  valid = plan-valid s demand allowance store (none-broken (P .tests))
+  valid = plan-valid s demand allowance store (none-broken (pass .tests))
 
-  leaves : Leaves (components s) (structure s) (P .stack) (P .pairs)
-  leaves = leaves-by valid allowance (P .stack) (P .pairs) (P .runs)
+  leaves : Leaves (components s) (structure s) (pass .stack) (pass .pairs)
+  leaves = leaves-by valid allowance (pass .stack) (pass .pairs) (pass .runs)
 
-  answer-is : (d : ℕ) → answerAt s demand allowance store d ≡ answerOf (completed (P .stack) (P .pairs)) (structure s) (components s) d
-  answer-is d = answered-by s allowance d (length store) (passes s demand allowance (length store) P)
+  answer-is : (d : ℕ) → answerAt s demand allowance store d ≡ answerOf (completed (pass .stack) (pass .pairs)) (structure s) (components s) d
+  answer-is d = answered-by s allowance d (length store) (passes s demand allowance (length store) pass)
 
   pub demand-2 : Demand-2 s demand allowance store
   demand-2 =
@@ -172,7 +171,7 @@ module _ (s : List ℕ) (demand allowance : ℕ) (store : List ℕ) (e : (answer
         tree = leaves .tree;
         built = leaves .built;
         pairs-are = ap (λ (x : Answer). x .pairs) a ∙ leaves .counted;
-        pairs-most = allowed (rw (P .runs) at (within (components s) allowance (structure s) [] 0 (omega arith))) (ap (λ (x : Answer). x .pairs) a);
+        pairs-most = allowed (rw (pass .runs) at (within (components s) allowance (structure s) [] 0 (omega arith))) (ap (λ (x : Answer). x .pairs) a);
       }
     where
       allowed : {stack : List Tree} {pairs n : ℕ} → Within allowance (completed stack pairs) → n ≡ pairs → n ≤ allowance
@@ -209,17 +208,17 @@ module _ (s : List ℕ) (demand allowance : ℕ) (store : List ℕ) (h : allowan
   pub answer-fits : Fits64 (answered s demand allowance store)
   answer-fits = elim (ℕ-discrete ((answered s demand allowance store) .number) 0) [
     | yes e ↦
-        let D = demand-2 s demand allowance store e in
+        let second = demand-2 s demand allowance store e in
         let l = list s demand allowance store in
-        let t : weights l ≤ 1000000000000000000 = omega (arith, D .list-weights, D .total-most) in
-        let L = leaves s demand allowance store e in
-        let p : length l ≤ weights l = length-le (rw (L .list) at (positive-collect (positive-outcomesOf (valid s demand allowance store e .positive) (L .tree)))) in
+        let t : weights l ≤ 1000000000000000000 = omega (arith, second .list-weights, second .total-most) in
+        let left-over = leaves s demand allowance store e in
+        let p : length l ≤ weights l = length-le (rw (left-over .list) at (positive-collect (positive-outcomesOf (valid s demand allowance store e .positive) (left-over .tree)))) in
         record {
-          total = omega (arith, D .total-most);
-          belief = omega (arith, D .list-belief demand, where-le (λ low high. leb demand low) l);
-          plausibility = omega (arith, D .list-plausibility demand, where-le (λ low high. leb demand high) l);
-          pairs = omega (arith, D .pairs-most);
-          intervals = omega (arith, D .list-length);
+          total = omega (arith, second .total-most);
+          belief = omega (arith, second .list-belief demand, where-le (λ low high. leb demand low) l);
+          plausibility = omega (arith, second .list-plausibility demand, where-le (λ low high. leb demand high) l);
+          pairs = omega (arith, second .pairs-most);
+          intervals = omega (arith, second .list-length);
         }
     | no n ↦
         rw (demand-1 s demand allowance store .zeros ((answered s demand allowance store) .number) (omega arith) refl)

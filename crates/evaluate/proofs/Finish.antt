@@ -3,7 +3,7 @@ use Prim.Native.Nat.{ℕ, zero, suc, _+_, _*_, _^_, _≤_, _<_}
 use mathlib.Core.Path.{_≡_, refl, sym, ap, _∙_}
 use mathlib.Core.Bool.{Bool, true, false, cond, _||_}
 use mathlib.Core.Logic.{_⊎_, inl, inr}
-use mathlib.Core.List.{List, [], _∷_, _++_, map}
+use mathlib.Core.List.{List, [], _∷_, map}
 use native.Mathlib.Omega.{arith}
 use lib.Dec.{ltb, eqb}
 use lib.ListN.{length, length-append}
@@ -23,7 +23,7 @@ use Rattle.theory.proofs.Collect.{belief-collect, plausibility-collect}
 use Rattle.theory.proofs.Method.{image, evaluate-lists, evaluate-refused, Leaves, method}
 use Rattle.theory.proofs.Totals.{fits-drive}
 use Rattle.records.specs.declared.Shares.{Shares}
-use Rattle.records.specs.Records.{encode, records, Under, speedLimit}
+use Rattle.records.specs.Records.{records, Under, speedLimit}
 use Rattle.records.specs.Shares.{sharesOf}
 use Rattle.records.proofs.Records.{length-encode}
 use Rattle.records.proofs.Store.{settled-list}
@@ -68,7 +68,7 @@ pub data Ends (cs : List Component) (es : List Entry) : Evaluation (List Focal) 
   stops : {k : ℕ} → (k ≡ 13) ⊎ (k ≡ 14) → Ends cs es (refused k) (refused k)
   leaves-one : {stack : List Tree} {pairs : ℕ} → Leaves cs es stack pairs → Ends cs es (completed (driveList es cs ∷ []) pairs) (completed stack pairs)
 
-module _ {p : Plan} (K : Valid p) where
+module _ {p : Plan} (valid : Valid p) where
   abbrev cs : List Component
   cs = componentsOf p
 
@@ -76,30 +76,30 @@ module _ {p : Plan} (K : Valid p) where
   es = entriesOf p
 
   entries-are : length es + 1 ≡ 2 * length cs
-  entries-are = K .entries ∙ ap (2 *_) (sym (components-count p))
+  entries-are = valid .entries ∙ ap (2 *_) (sym (components-count p))
 
   each-once : NamedOnce (length cs) es
-  each-once i = K .namedOnce i ∙ ap (λ n. cond (ltb i n) 1 0) (sym (components-count p))
+  each-once i = valid .namedOnce i ∙ ap (λ n. cond (ltb i n) 1 0) (sym (components-count p))
 
   pub leaves-by : (allowance : ℕ) (stack : List Tree) (pairs : ℕ) → evaluate cs allowance es ≡ completed stack pairs → Leaves cs es stack pairs
-  leaves-by allowance = method (K .positive) allowance es entries-are each-once (K .findTwo)
+  leaves-by allowance = method (valid .positive) allowance es entries-are each-once (valid .findTwo)
 
   pub run-ends : (allowance : ℕ) → Ends cs es (walked p allowance) (evaluate cs allowance es)
   unfolding walked
-  run-ends allowance = rw (evaluate-lists (K .positive) allowance es) (go (evaluate cs allowance es) refl)
+  run-ends allowance = rw (evaluate-lists (valid .positive) allowance es) (go (evaluate cs allowance es) refl)
     where
       go : (v : Evaluation Tree) → evaluate cs allowance es ≡ v → Ends cs es (image (listOf cs) v) v
       go (refused k) q = stops (evaluate-refused cs allowance es k q)
       go (completed stack pairs) q =
-          let L : Leaves cs es stack pairs = leaves-by allowance stack pairs q in
-          let one : map (listOf cs) stack ≡ driveList es cs ∷ [] = ap (map (listOf cs)) (L .left) ∙ ap (_∷ []) (L .list) in
-          rw one (leaves-one L)
+          let left-over : Leaves cs es stack pairs = leaves-by allowance stack pairs q in
+          let one : map (listOf cs) stack ≡ driveList es cs ∷ [] = ap (map (listOf cs)) (left-over .left) ∙ ap (_∷ []) (left-over .list) in
+          rw one (leaves-one left-over)
 
   -- the numbers of the drive's list fit records
   pub drive-fits : Every (Under speedLimit) (driveList es cs) × (weights (driveList es cs) < 2 ^ 64)
   drive-fits =
-      fits-record (fits-drive (K .inRange) (K .balanced) (every-map (λ c q. q .1) (K .totals)) (K .positive) es entries-are each-once (K .findTwo))
-      (omega (arith, components-count p, K .most))
+      fits-record (fits-drive (valid .inRange) (valid .balanced) (every-map (λ c q. q .1) (valid .totals)) (valid .positive) es entries-are each-once (valid .findTwo))
+      (omega (arith, components-count p, valid .most))
 
 -- a list that a store holds takes its records' bytes
 filled-room : (size : ℕ) (l : List Focal) (s : List ℕ) → recordBytes * length l ≤ length (filled size l s)
@@ -161,7 +161,7 @@ module _ (s : List ℕ) (demand allowance : ℕ) (store : List ℕ) where
             readable = λ h. absurd (omega (arith, above k l));
             accepts = λ h. absurd (omega (arith, above k l));
           }
-      go (leaves-one {stack = stack} {pairs = pairs} L) q e f =
+      go (leaves-one {stack = stack} {pairs = pairs} left-over) q e f =
           let m : r .intervals ≡ length list = ap (λ (y : Ran). y .intervals) e in
           let u : ending s allowance (length store) ≡ completed stack pairs = rw (z, q) in
           let fits = drive-fits (plan-valid z) in

@@ -3,7 +3,7 @@ use Prim.Native.Nat.{ℕ, zero, suc}
 use mathlib.Core.List.{List, [], _∷_, _++_}
 use lib.Dec.{ltb}
 use lib.ListN.{length}
-use Rattle.theory.specs.Focal.{Focal, total}
+use Rattle.theory.specs.Focal.{total}
 use Rattle.theory.specs.declared.Component.{Component}
 use Rattle.theory.specs.declared.Entry.{Entry}
 use Rattle.theory.specs.Structure.{Tree}
@@ -18,7 +18,7 @@ use Rattle.reading.specs.Reading.{sheetTests, readOf}
 use Rattle.run.specs.Run.{needed}
 use Rattle.evaluate.specs.declared.Answer.{Answer}
 
--- the plan that a sheet reads as, its components and its structure
+-- The plan that a sheet reads as, its components and its structure.
 abbrev pub planOf : List ℕ → Plan
 planOf sheet = (readOf sheet) .plan
 
@@ -32,7 +32,7 @@ structure sheet = entriesOf (planOf sheet)
 abbrev pub callTests : List ℕ → ℕ → List Test
 callTests sheet room = sheetTests sheet ++ (test 12 (ltb room (needed (planOf sheet))) ∷ [])
 
--- the number of the first that is broken, or 0, and the plan
+-- What they find: the number of the first that is broken, or 0, and the plan.
 unfoldable pub testedOf : List ℕ → ℕ → Reading
 testedOf sheet room = record { number = firstBroken (callTests sheet room); plan = planOf sheet }
 
@@ -40,12 +40,12 @@ testedOf sheet room = record { number = firstBroken (callTests sheet room); plan
 abbrev pub evaluated : List ℕ → ℕ → Evaluation Tree
 evaluated sheet allowance = evaluate (components sheet) allowance (structure sheet)
 
--- a refusal by a test, or else the run
+-- A number above 0 of the tests refuses; otherwise the run counts.
 abbrev pub testedFirst : {A : Type 0} → ℕ → Evaluation A → Evaluation A
 testedFirst zero run = run
 testedFirst (suc k) run = refused (suc k)
 
--- what a call ends in
+-- What a call ends in.
 abbrev pub ending : List ℕ → ℕ → ℕ → Evaluation Tree
 ending sheet allowance room = testedFirst (firstBroken (callTests sheet room)) (evaluated sheet allowance)
 

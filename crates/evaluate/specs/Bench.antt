@@ -8,7 +8,7 @@ use Rattle.evaluate.specs.declared.Answer.{Answer}
 use Rattle.theory.specs.Limits.{storeBytes}
 use Rattle.evaluate.specs.Answer.{components, structure, refusal, answer}
 
--- an interval with its weight
+-- An interval with its weight.
 abbrev pub iv : ℕ → ℕ → ℕ → Focal
 iv low high weight = record { low = low; high = high; weight = weight }
 
@@ -28,23 +28,23 @@ ABshared = AB (0x01 ∷ 0x90 ∷ [])
 abbrev pub ABspare : List ℕ
 ABspare = AB (0x01 ∷ 0xA0 ∷ [])
 
--- W: source 002, example 2.1, speeds times 10, weights times 100, in series
+-- W: source 002, example 2.1, speeds times 10, weights times 100, in series.
 abbrev pub W : List ℕ
 W =
     0x12 ∷ 0x1E ∷
     0x30 ∷ 0x64 ∷ 0x00 ∷ 0x00 ∷ 0x04 ∷ 0x05 ∷ 0x00 ∷ 0x0C ∷ 0x02 ∷ 0x04 ∷ 0x30 ∷ 0x07 ∷ 0x00 ∷ 0xA0 ∷ 0x34 ∷
     0x20 ∷ 0x64 ∷ 0x00 ∷ 0x00 ∷ 0x06 ∷ 0x10 ∷ 0xC0 ∷ 0x20 ∷ 0x02 ∷ 0x82 ∷ 0x10 ∷ 0x01 ∷ 0x80 ∷ []
 
--- an accepted answer
+-- An accepted call's answer.
 abbrev pub accepted : ℕ → ℕ → ℕ → ℕ → ℕ → Answer
 accepted total belief plausibility pairs intervals =
     record { number = 0; total = total; belief = belief; plausibility = plausibility; pairs = pairs; intervals = intervals }
 
--- the drive's list of a sheet, which an accepted call leaves in the store
+-- The drive's list of a sheet, which an accepted call leaves in the store.
 abbrev pub listLeft : List ℕ → List Focal
 listLeft sheet = driveList (structure sheet) (components sheet)
 
--- with the allowance of the table and a store that is just long enough
+-- A call with the allowance of the table and a store that is just long enough.
 abbrev pub asked : List ℕ → ℕ → Answer
 asked sheet demand = answer sheet demand 1000 storeBytes
 

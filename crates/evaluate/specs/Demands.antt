@@ -41,18 +41,18 @@ pub data Broken (s : List ℕ) (allowance room : ℕ) : ℕ → Type 0 where
 
 -- A call on the sheet s.
 module _ (s : List ℕ) (demand allowance : ℕ) (store : List ℕ) where
-  -- its answer at the demand d, and at the one asked for
+  -- Its answer at a demand d, and at the one asked for.
   abbrev pub answerAt : ℕ → Answer
   answerAt d = answer s d allowance (length store)
 
   abbrev pub answered : Answer
   answered = answerAt demand
 
-  -- the store afterwards
+  -- The store afterwards.
   abbrev pub after : List ℕ
   after = storeAfter s allowance store
 
-  -- the outcomes of all choices, and the drive's list
+  -- The outcomes of all choices, and the drive's list.
   abbrev pub all : List Focal
   all = outcomes (structure s) (components s)
 
@@ -61,37 +61,37 @@ module _ (s : List ℕ) (demand allowance : ℕ) (store : List ℕ) where
 
   -- Demand 1, for every sheet, demand, allowance and store.
   pub record Demand-1 : Type 0 where
-    -- accepted exactly when no rule is broken; otherwise the one number of the first that is, and zero for everything else
+    -- It is accepted exactly when no rule is broken; otherwise it has the one number of the first that is, and zero for everything else.
     pub accepted : (answered .number ≡ 0) ↔ Passed s allowance (length store)
     pub refused-by : (k : ℕ) → 0 < k → (answered .number ≡ k) ↔ Broken s allowance (length store) k
     pub zeros : (k : ℕ) → 0 < k → answered .number ≡ k → answered ≡ refusal k
-    -- the store: the drive's list and zeros after acceptance, zeros after 13 and 14, and otherwise as it was
+    -- The store has the drive's list and zeros after acceptance, zeros after 13 and 14, and is otherwise as it was.
     pub store-accepted : answered .number ≡ 0 → after ≡ filled (needed (planOf s)) list store
     pub store-late : (k : ℕ) → (k ≡ 13) ⊎ (k ≡ 14) → answered .number ≡ k → after ≡ cleared (needed (planOf s)) store
     pub store-kept : (k : ℕ) → 0 < k → (k ≡ 13 → ⊥) → (k ≡ 14 → ⊥) → answered .number ≡ k → after ≡ store
 
   -- Demand 2, for an accepted call.
   pub record Demand-2 : Type 0 where
-    -- the answers are those of the sum over all choices
+    -- The answers are those of the sum over all choices.
     pub total-is : answered .total ≡ total (components s)
     pub belief-is : answered .belief ≡ belief demand all
     pub plausibility-is : answered .plausibility ≡ plausibility demand all
-    -- U is at most 10 to the 18th
+    -- U is at most 10 to the 18th.
     pub total-most : answered .total ≤ mostTotal ^ mostComponents
-    -- each outcome is the interval of all speeds of its choice (source 002, definition 2.3)
+    -- Each outcome is the interval of all speeds of its choice (source 002, definition 2.3).
     pub spans : Every (Spans (structure s)) (choices (components s))
-    -- the list in the store is the drive's, and is read back from there
+    -- The list in the store is the drive's, and is read back from there.
     pub list-length : answered .intervals ≡ length list
     pub list-is : after ≡ filled (needed (planOf s)) list store
     pub list-read : records (answered .intervals) after ≡ list
-    -- in order, each interval with the weights of the outcomes that are this interval, and U in all
+    -- It is in order, and has at each interval the weights of the outcomes that are this interval: U in all.
     pub list-ordered : InOrder list
     pub list-weight : (low high : ℕ) → weightAt low high list ≡ weightAt low high all
     pub list-weights : weights list ≡ answered .total
-    -- its shares are those of all choices, at every demand
+    -- Its shares are the answers, at every demand.
     pub list-belief : (d : ℕ) → belief d list ≡ answerAt d .belief
     pub list-plausibility : (d : ℕ) → plausibility d list ≡ answerAt d .plausibility
-    -- the pairs are those of the joins of the one tree that the structure builds
+    -- The pairs are those of the joins of the one tree that the structure builds.
     pub tree : Tree
     pub built : trees (structure s) ≡ tree ∷ []
     pub pairs-are : answered .pairs ≡ pairCount (components s) tree
@@ -106,7 +106,8 @@ module _ (s : List ℕ) (demand allowance : ℕ) (store : List ℕ) where
 pub record Writer (p : Plan) (buffer : List ℕ) : Type 0 where
   pub accepted : ((writtenOf p (length buffer)) .number ≡ 0) ↔ Every Unbroken (planTests p (length buffer))
   pub refused-by : (k : ℕ) → 0 < k → ((writtenOf p (length buffer)) .number ≡ k) ↔ First (planTests p (length buffer)) k
-  pub nothing-written : (k : ℕ) → 0 < k → (writtenOf p (length buffer)) .number ≡ k → ((writtenOf p (length buffer)) .length ≡ 0) × (bytesAfter p buffer ≡ buffer)
+  pub nothing-written : (k : ℕ) → 0 < k → (writtenOf p (length buffer)) .number ≡ k
+      → ((writtenOf p (length buffer)) .length ≡ 0) × (bytesAfter p buffer ≡ buffer)
   pub rest-kept : (writtenOf p (length buffer)) .number ≡ 0
       → drop ((writtenOf p (length buffer)) .length) (bytesAfter p buffer) ≡ drop ((writtenOf p (length buffer)) .length) buffer
   pub ignores-unused : IgnoresUnused p buffer

@@ -16,7 +16,7 @@ abbrev pub storeBy : Evaluation Tree → ℕ → List Focal → List ℕ → Lis
 storeBy (completed stack pairs) size list store = filled size list store
 storeBy (refused number) size list store = cond (eqb number 13 || eqb number 14) (cleared size store) store
 
--- the store after a call
+-- The store after a call.
 unfoldable pub storeAfter : List ℕ → ℕ → List ℕ → List ℕ
 storeAfter sheet allowance store =
     storeBy (ending sheet allowance (length store)) (needed (planOf sheet)) (driveList (structure sheet) (components sheet)) store

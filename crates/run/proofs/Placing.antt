@@ -1,7 +1,7 @@
 -- A list that is put behind the lists of a stack: the others stay as they were, and it stands on top. Assumes nothing.
 use Prim.Native.Nat.{ℕ, zero, suc, _+_, _-_, _*_, _^_, _≤_, _<_}
 use mathlib.Core.Path.{_≡_, refl, ap, ap₂, _∙_}
-use mathlib.Core.List.{List, [], _∷_}
+use mathlib.Core.List.{List, _∷_}
 use native.Mathlib.Numerals.{add-one}
 use native.Mathlib.Decide.{ℕ-discrete}
 use native.Mathlib.Omega.{arith}
@@ -30,19 +30,19 @@ pub record Stored (size : ℕ) (store₀ store : List ℕ) (st : Stack) : Type 0
   pub later : drop size store ≡ drop size store₀
 
 -- a list at place d, from the free rest's first byte on
-module _ {size : ℕ} {store₀ store : List ℕ} {st : Stack} (S : Stored size store₀ store st) (enough : size ≤ length store₀)
+module _ {size : ℕ} {store₀ store : List ℕ} {st : Stack} (stored : Stored size store₀ store st) (enough : size ≤ length store₀)
     (d pairs : ℕ) (l : List Focal) (low : d ≤ st .depth) (place : d < mostComponents) (room : st .free + listBytes ≤ size) (short : length l ≤ mostIntervals) where
   abbrev next : Stack
   next = withList st d (st .free) (length l) pairs
 
   inside : st .free ≤ length store
-  inside = omega (arith, S .same-length)
+  inside = omega (arith, stored .same-length)
 
   start-top : getD (set (st .starts) d (st .free)) d 0 ≡ st .free
-  start-top = getD-set-same (st .starts) d (st .free) 0 (omega (arith, S .starts))
+  start-top = getD-set-same (st .starts) d (st .free) 0 (omega (arith, stored .starts))
 
   count-top : getD (set (st .counts) d (length l)) d 0 ≡ length l
-  count-top = getD-set-same (st .counts) d (length l) 0 (omega (arith, S .counts))
+  count-top = getD-set-same (st .counts) d (length l) 0 (omega (arith, stored .counts))
 
   start-below : (k : ℕ) → (k ≡ d → ⊥) → getD (set (st .starts) d (st .free)) k 0 ≡ getD (st .starts) k 0
   start-below k e = getD-set-other (st .starts) d k (st .free) 0 e
@@ -55,7 +55,7 @@ module _ {size : ℕ} {store₀ store : List ℕ} {st : Stack} (S : Stored size 
   below-same (suc e) h =
       ap₂ _∷_
       (ap₂ (listIn (holdingFrom store (st .free) l)) (start-below e (λ q. omega arith)) (count-below e (λ q. omega arith))
-      ∙ listIn-before store (st .free) l (getD (st .starts) e 0) (getD (st .counts) e 0) inside (S .apart e (omega arith) .0))
+      ∙ listIn-before store (st .free) l (getD (st .starts) e 0) (getD (st .counts) e 0) inside (stored .apart e (omega arith) .0))
       (below-same e (omega arith))
 
   pub on-top : Every (Under speedLimit) l × (weights l < 2 ^ 64) → listsBelow (holdingFrom store (st .free) l) next (d + 1) ≡ l ∷ listsBelow store st d
@@ -65,14 +65,14 @@ module _ {size : ℕ} {store₀ store : List ℕ} {st : Stack} (S : Stored size 
 
   pub stored-next : Stored size store₀ (holdingFrom store (st .free) l) next
   stored-next = record {
-    starts = length-set (st .starts) d (st .free) ∙ S .starts;
-    counts = length-set (st .counts) d (length l) ∙ S .counts;
+    starts = length-set (st .starts) d (st .free) ∙ stored .starts;
+    counts = length-set (st .counts) d (length l) ∙ stored .counts;
     apart = λ k q. elim (ℕ-discrete k d) [
       | yes e ↦ rw e (omega (arith, start-top, count-top))
-      | no e ↦ omega (arith, start-below k e, count-below k e, S .apart k (omega arith))
+      | no e ↦ omega (arith, start-below k e, count-below k e, stored .apart k (omega arith))
     ];
-    same-length = length-from store (st .free) l (omega (arith, S .same-length)) ∙ S .same-length;
-    later = drop-from store (st .free) l size (omega arith) inside ∙ S .later;
+    same-length = length-from store (st .free) l (omega (arith, stored .same-length)) ∙ stored .same-length;
+    later = drop-from store (st .free) l size (omega arith) inside ∙ stored .later;
   }
 
 -- what the end of a run makes of the first n bytes

@@ -7,16 +7,16 @@ use native.Mathlib.Numerals.{add-one}
 use native.Mathlib.Omega.{arith}
 use lib.Dec.{ltb}
 use borrow.Author.Tests.{ltb-false, le-ltb}
-use lib.ListN.{length, getD, drop}
+use lib.ListN.{length, drop}
 use Rattle.theory.specs.Sums.{Every}
-use Rattle.theory.specs.Focal.{Focal, masses, weights}
+use Rattle.theory.specs.Focal.{Focal, masses}
 use Rattle.theory.specs.declared.Entry.{Entry}
 use Rattle.theory.specs.declared.Entry.the-variants.{Component as component, Join as join}
 use Rattle.theory.specs.Joins.{pairs}
 use Rattle.theory.specs.Structure.{named, joinsFindTwo}
 use Rattle.theory.specs.Lists.{collect, noComponent, Fits}
 use Rattle.theory.specs.Evaluation.{Evaluation, completed, refused, refuseIf, walkLists}
-use Rattle.theory.specs.Limits.{mostHeld, mostTotal, mostIntervals, mostComponents, recordBytes, listBytes, storeBytes}
+use Rattle.theory.specs.Limits.{mostHeld, mostIntervals, mostComponents, recordBytes, listBytes, storeBytes}
 use Rattle.theory.specs.declared.Component.{Component}
 use Rattle.theory.specs.declared.Join.{Join}
 use Rattle.theory.proofs.Every.{index-of-every}
@@ -68,85 +68,85 @@ pub record Running (p : Plan) (allowance : ℕ) (store₀ : List ℕ) (rest : Li
 every-first : {P : Entry → Type 0} {e : Entry} {es : List Entry} → Every P (e ∷ es) → P e × Every P es
 every-first (Every.more h hs) = (h, hs)
 
-module _ {p : Plan} (K : Valid p) {allowance : ℕ} where
+module _ {p : Plan} (valid : Valid p) {allowance : ℕ} where
   pub starting : (store : List ℕ) → Running p allowance store (entriesOf p) store emptyStack
   unfolding walked
   starting store =
-      let n : length (named (entriesOf p)) ≡ p .count = named-length (p .count) (entriesOf p) (K .namedOnce) in
-      let j : joinCount (entriesOf p) + 1 ≡ p .count = omega (arith, counted (entriesOf p), K .entries) in
+      let n : length (named (entriesOf p)) ≡ p .count = named-length (p .count) (entriesOf p) (valid .namedOnce) in
+      let j : joinCount (entriesOf p) + 1 ≡ p .count = omega (arith, counted (entriesOf p), valid .entries) in
       record {
         stored = record { starts = refl; counts = refl; apart = λ k h. absurd (omega arith); same-length = refl; later = refl };
         held = 0;
         lists = none;
         height = omega arith;
         unnamed = omega arith;
-        known = K .known;
+        known = valid .known;
         balance = omega arith;
-        two = K .findTwo;
-        room = omega (arith, K .least, K .most);
+        two = valid .findTwo;
+        room = omega (arith, valid .least, valid .most);
         allowed = omega arith;
         walks = refl;
       }
 
   pub in-region : {store₀ store : List ℕ} {rest : List Entry} {st : Stack} → Running p allowance store₀ rest store st → st .free ≤ storeBytes
-  in-region R = omega (arith, R .room, K .most)
+  in-region running = omega (arith, running .room, valid .most)
 
   -- at the end the one list of the stack is what the walk leaves
   pub finished : {store₀ store : List ℕ} {st : Stack} → Running p allowance store₀ [] store st
       → (st .depth ≡ 1) × (walked p allowance ≡ completed (listAt store st 0 ∷ []) (st .pairs))
-  finished {store = store} {st = st} R =
-      let one : st .depth ≡ 1 = omega (arith, R .balance) in
-      (one, sym (ap (λ d. completed (listsBelow store st d) (st .pairs)) (sym one) ∙ R .walks))
+  finished {store = store} {st = st} running =
+      let one : st .depth ≡ 1 = omega (arith, running .balance) in
+      (one, sym (ap (λ d. completed (listsBelow store st d) (st .pairs)) (sym one) ∙ running .walks))
 
   -- ---- a component's entry
   module _ {store₀ store : List ℕ} (enough : needed p ≤ length store₀) {j : ℕ} {rest : List Entry} {st : Stack}
-      (R : Running p allowance store₀ (component j ∷ rest) store st) where
+      (running : Running p allowance store₀ (component j ∷ rest) store st) where
     abbrev c : Component
     c = componentAt p j
 
     pub component-below : j < p .count
-    component-below = known-component (every-first (R .known) .0)
+    component-below = known-component (every-first (running .known) .0)
 
     of-component : {P : Component → Type 0} → Every P (componentsOf p) → P c
     of-component {P} h = subst P (component-is p j component-below) (index-of-every noComponent h j (omega (arith, component-below, components-count p)))
 
     fits : Fits 1 (collect (masses c))
-    fits = fits-leaf c (of-component (K .inRange)) (omega (arith, of-component (K .totals), of-component (K .balanced)))
+    fits = fits-leaf c (of-component (valid .inRange)) (omega (arith, of-component (valid .totals), of-component (valid .balanced)))
 
     push-room : (st .depth < mostComponents) × (st .free + listBytes ≤ storeBytes)
-    push-room = omega (arith, R .height, R .unnamed, R .balance, R .room, K .most)
+    push-room = omega (arith, running .height, running .unnamed, running .balance, running .room, valid .most)
 
     pub pushable : Pushable c store st
     pushable = record {
       place = push-room .0;
-      start = in-region R;
-      room = omega (arith, push-room, R .stored .same-length);
-      count = of-component (K .counts) .1;
+      start = in-region running;
+      room = omega (arith, push-room, running .stored .same-length);
+      count = of-component (valid .counts) .1;
     }
 
     pub push-next : Running p allowance store₀ rest (pushedStore c store st) (pushed c st)
     push-next =
         let l : List Focal = collect (masses c) in
-        let short : length l ≤ mostHeld = omega (arith, length-leaf c, of-component (K .counts)) in
+        let short : length l ≤ mostHeld = omega (arith, length-leaf c, of-component (valid .counts)) in
         let top : listsBelow (pushedStore c store st) (pushed c st) (st .depth + 1) ≡ l ∷ listsBelow store st (st .depth) =
-        on-top (R .stored) enough (st .depth) (st .pairs) l (omega arith) (push-room .0) (push-room .1) (omega arith) (fits-record fits (omega arith)) in
+        on-top (running .stored) enough (st .depth) (st .pairs) l (omega arith) (push-room .0) (push-room .1) (omega arith) (fits-record fits (omega arith)) in
         record {
-          stored = stored-next (R .stored) enough (st .depth) (st .pairs) l (omega arith) (push-room .0) (push-room .1) (omega arith);
-          held = suc (R .held);
-          lists = rw top (more {k = suc (R .held)} fits (R .lists) (omega arith));
-          height = omega (arith, R .height);
-          unnamed = omega (arith, R .unnamed);
-          known = every-first (R .known) .1;
-          balance = omega (arith, R .balance);
-          two = rw (add-one (st .depth)) (R .two);
-          room = omega (arith, R .room, short);
-          allowed = R .allowed;
-          walks = rw (top, ← component-is p j component-below) (R .walks);
+          stored = stored-next (running .stored) enough (st .depth) (st .pairs) l (omega arith) (push-room .0) (push-room .1) (omega arith);
+          held = suc (running .held);
+          lists = rw top (more {k = suc (running .held)} fits (running .lists) (omega arith));
+          height = omega (arith, running .height);
+          unnamed = omega (arith, running .unnamed);
+          known = every-first (running .known) .1;
+          balance = omega (arith, running .balance);
+          two = rw (add-one (st .depth)) (running .two);
+          room = omega (arith, running .room, short);
+          allowed = running .allowed;
+          walks = rw (top, ← component-is p j component-below) (running .walks);
         }
 
   -- ---- a join's entry
   module _ {store₀ store : List ℕ} (enough : needed p ≤ length store₀) {op : Join} {rest : List Entry} {st : Stack}
-      (R : Running p allowance store₀ (join op ∷ rest) store st) where
+      (running : Running p allowance store₀ (join op ∷ rest) store st) where
     finds-two : (d : ℕ) → joinsFindTwo (join op ∷ rest) d ≡ true → (2 ≤ d) × (joinsFindTwo rest (d - 2 + 1) ≡ true)
     finds-two zero e = absurd (false≢true e)
     finds-two (suc zero) e = absurd (false≢true e)
@@ -155,10 +155,10 @@ module _ {p : Plan} (K : Valid p) {allowance : ℕ} where
         (omega arith, rw n e)
 
     two-there : 2 ≤ st .depth
-    two-there = finds-two (st .depth) (R .two) .0
+    two-there = finds-two (st .depth) (running .two) .0
 
     join-room : (st .depth ≤ mostComponents) × (st .free + listBytes ≤ storeBytes)
-    join-room = omega (arith, R .height, R .unnamed, R .balance, R .room, K .most)
+    join-room = omega (arith, running .height, running .unnamed, running .balance, running .room, valid .most)
 
     abbrev below : List (List Focal)
     below = listsBelow store st (st .depth - 2)
@@ -169,28 +169,28 @@ module _ {p : Plan} (K : Valid p) {allowance : ℕ} where
         let b : suc (st .depth - 2) ≡ st .depth - 1 = omega (arith, two-there) in
         ap (listsBelow store st) a ∙ ap (λ k. listAt store st k ∷ topList store st 2 ∷ below) b
 
-    T : Topmost (R .held) (topList store st 2) (topList store st 1) below
-    T = topmost (rw split at (R .lists))
+    topTwo : Topmost (running .held) (topList store st 2) (topList store st 1) below
+    topTwo = topmost (rw split at (running .lists))
 
-    together : T .m + T .n ≤ mostComponents
-    together = omega (arith, T .together, R .unnamed, K .most)
+    together : topTwo .m + topTwo .n ≤ mostComponents
+    together = omega (arith, topTwo .together, running .unnamed, valid .most)
 
     operand : (k m : ℕ) → 0 < k → k ≤ st .depth → m ≤ mostComponents → Fits m (topList store st k) → Operand store (topStart st k) (topCount st k)
     operand k m a b h f =
-        let at-k = R .stored .apart (st .depth - k) (omega arith) in
-        record { count = at-k .1; inside = omega (arith, at-k, join-room, R .stored .same-length); under = fits-speeds f h }
+        let at-k = running .stored .apart (st .depth - k) (omega arith) in
+        record { count = at-k .1; inside = omega (arith, at-k, join-room, running .stored .same-length); under = fits-speeds f h }
 
     pub applicable : Applicable allowance store st
     applicable = record {
       two = two-there;
       place = join-room .0;
-      start = in-region R;
-      allowed = R .allowed;
+      start = in-region running;
+      allowed = running .allowed;
       joinable = record {
-        first = operand 2 (T .m) (omega arith) two-there (omega (arith, together)) (T .fits-left);
-        second = operand 1 (T .n) (omega arith) (omega (arith, two-there)) (omega (arith, together)) (T .fits-right);
-        room = omega (arith, join-room, R .stored .same-length);
-        fits = fits-product (T .fits-left) (T .fits-right) together;
+        first = operand 2 (topTwo .m) (omega arith) two-there (omega (arith, together)) (topTwo .fits-left);
+        second = operand 1 (topTwo .n) (omega arith) (omega (arith, two-there)) (omega (arith, together)) (topTwo .fits-right);
+        room = omega (arith, join-room, running .stored .same-length);
+        fits = fits-product (topTwo .fits-left) (topTwo .fits-right) together;
       };
     }
 
@@ -204,7 +204,7 @@ module _ {p : Plan} (K : Valid p) {allowance : ℕ} where
     at-join : walked p allowance
         ≡ refuseIf (ltb allowance (spent st)) 13 (refuseIf (ltb mostIntervals (length list)) 14 (walkOn p allowance rest (list ∷ below) (spent st)))
     at-join =
-        sym (R .walks) ∙ (ap (λ (ls : List (List Focal)). walkOn p allowance (join op ∷ rest) ls (st .pairs)) split
+        sym (running .walks) ∙ (ap (λ (ls : List (List Focal)). walkOn p allowance (join op ∷ rest) ls (st .pairs)) split
         ∙ ap₂ (λ m n. refuseIf (ltb allowance (st .pairs + m * n)) 13 (refuseIf (ltb mostIntervals (length list)) 14 (walkOn p allowance rest (list ∷ below) (st .pairs + m * n))))
         (counts-are 2) (counts-are 1))
 
@@ -215,19 +215,19 @@ module _ {p : Plan} (K : Valid p) {allowance : ℕ} where
     join-next a b =
         let d : ℕ = st .depth - 2 in
         let place : d < mostComponents = omega (arith, join-room, two-there) in
-        let fits : Fits (T .m + T .n) list = fits-join op (T .fits-left) (T .fits-right) in
+        let fits : Fits (topTwo .m + topTwo .n) list = fits-join op (topTwo .fits-left) (topTwo .fits-right) in
         let top : listsBelow (holdingFrom store (st .free) list) joinedStack (d + 1) ≡ list ∷ below =
-        on-top (R .stored) enough d (spent st) list (omega arith) place (join-room .1) b (fits-record fits together) in
+        on-top (running .stored) enough d (spent st) list (omega arith) place (join-room .1) b (fits-record fits together) in
         record {
-          stored = stored-next (R .stored) enough d (spent st) list (omega arith) place (join-room .1) b;
-          held = R .held;
-          lists = rw top (more fits (T .stacked) (T .together));
-          height = omega (arith, R .height, R .unnamed, K .most, two-there);
-          unnamed = R .unnamed;
-          known = every-first (R .known) .1;
-          balance = omega (arith, R .balance, two-there);
-          two = finds-two (st .depth) (R .two) .1;
-          room = omega (arith, R .room);
+          stored = stored-next (running .stored) enough d (spent st) list (omega arith) place (join-room .1) b;
+          held = running .held;
+          lists = rw top (more fits (topTwo .stacked) (topTwo .together));
+          height = omega (arith, running .height, running .unnamed, valid .most, two-there);
+          unnamed = running .unnamed;
+          known = every-first (running .known) .1;
+          balance = omega (arith, running .balance, two-there);
+          two = finds-two (st .depth) (running .two) .1;
+          room = omega (arith, running .room);
           allowed = a;
           walks = rw top (sym (at-join ∙ rw (le-ltb allowance (spent st) a, le-ltb mostIntervals (length list) b) refl));
         }
@@ -261,7 +261,7 @@ module _ {p : Plan} (K : Valid p) {allowance : ℕ} where
         made = fill [] (pairs op (topList store st 2) (topList store st 1))
 
         go : (b : Bool) → drop (needed p) (cond b store (holdingFrom store (st .free) (made .list))) ≡ drop (needed p) store₀
-        go true = R .stored .later
+        go true = running .stored .later
         go false =
             drop-from store (st .free) (made .list) (needed p) (omega (arith, join-room, grown [] (pairs op (topList store st 2) (topList store st 1)) .room (omega arith)))
-            (omega (arith, join-room, R .stored .same-length)) ∙ R .stored .later
+            (omega (arith, join-room, running .stored .same-length)) ∙ running .stored .later

@@ -11,22 +11,22 @@ use Rattle.plan.specs.declared.Plan.{Plan}
 use Rattle.plan.specs.Plan.{componentsOf, entriesOf}
 use Rattle.run.specs.declared.Ran.{Ran}
 
--- the bytes of the store (document 01: the list buffer) that a plan of n components needs
+-- The bytes of the store (document 01: the list buffer) that a plan of n components needs. They are all that its run writes.
 abbrev pub storeFor : ℕ → ℕ
 storeFor n = storeBytes
 
 abbrev pub needed : Plan → ℕ
 needed p = storeFor (p .count)
 
--- the list of component i
+-- The list of component i.
 abbrev pub leafList : Plan → ℕ → List Focal
 leafList p i = collect (masses (getD (componentsOf p) i noComponent))
 
--- What the walk on lists, the method, ends in.
+-- What the walk on lists, the method of theory's Evaluation, ends in.
 unfoldable pub walked : Plan → ℕ → Evaluation (List Focal)
 walked p allowance = walkLists _*_ allowance (leafList p) (entriesOf p) [] 0
 
--- the topmost list of a stack: a plan that keeps the rules leaves just one
+-- The topmost list of a stack. A plan that keeps the rules leaves just one.
 abbrev pub topmost : List (List Focal) → List Focal
 topmost [] = []
 topmost (list ∷ stack) = list
@@ -36,11 +36,11 @@ abbrev pub ranOf : Evaluation (List Focal) → Ran
 ranOf (completed stack pairs) = record { number = 0; pairs = pairs; intervals = length (topmost stack) }
 ranOf (refused number) = record { number = number; pairs = 0; intervals = 0 }
 
--- the list at the front of the store, zero in the rest of its first `size` bytes, later bytes untouched
+-- The list at the front of the store, zero in the rest of its first `size` bytes, later bytes untouched.
 abbrev pub filled : ℕ → List Focal → List ℕ → List ℕ
 filled size list store = settled size list store
 
--- zero in its first `size` bytes, later bytes untouched
+-- Zero in its first `size` bytes, later bytes untouched.
 abbrev pub cleared : ℕ → List ℕ → List ℕ
 cleared size store = replicate size 0 ++ drop size store
 

@@ -14,20 +14,20 @@ use Rattle.joins.specs.Joins.{joinedStore, Joinable}
 use Rattle.run.specs.declared.Stack.{Stack}
 use Rattle.run.specs.declared.Step.{Step}
 
--- no lists, no pairs
+-- The stack at the start: no lists, no pairs.
 abbrev pub emptyStack : Stack
 emptyStack = record { starts = replicate mostComponents 0; counts = replicate mostComponents 0; depth = 0; free = 0; pairs = 0 }
 
--- list k of the stack, counted from the bottom
+-- List k of the stack, counted from the bottom.
 abbrev pub listAt : List ℕ → Stack → ℕ → List Focal
 listAt store st k = listIn store (getD (st .starts) k 0) (getD (st .counts) k 0)
 
--- the lowest d lists, topmost first
+-- The lowest d lists, topmost first.
 abbrev pub listsBelow : List ℕ → Stack → ℕ → List (List Focal)
 listsBelow store st zero = []
 listsBelow store st (suc d) = listAt store st d ∷ listsBelow store st d
 
--- the stack whose topmost list, at place d, has n records from byte `start` on; the free rest is behind it
+-- The stack whose topmost list, at place d, has n records from byte `start` on; the free rest of the store is behind it.
 abbrev pub withList : Stack → ℕ → ℕ → ℕ → ℕ → Stack
 withList st d start n pairs =
     record { starts = set (st .starts) d start; counts = set (st .counts) d n; depth = d + 1; free = start + recordBytes * n; pairs = pairs }
@@ -46,7 +46,7 @@ pub record Pushable (c : Component) (store : List ℕ) (st : Stack) : Type 0 whe
   pub room : st .free + listBytes ≤ length store
   pub count : c .count ≤ mostHeld
 
--- where list k from the top starts (the topmost is 1), how many records it has, and the list
+-- Where list k from the top starts, the topmost being 1; how many records it has; and the list.
 abbrev pub topStart : Stack → ℕ → ℕ
 topStart st k = getD (st .starts) (st .depth - k) 0
 
@@ -56,15 +56,15 @@ topCount st k = getD (st .counts) (st .depth - k) 0
 abbrev pub topList : List ℕ → Stack → ℕ → List Focal
 topList store st k = listAt store st (st .depth - k)
 
--- the list of the join of the two topmost, and the pairs so far with those of this join
+-- The list of the join of the two topmost, and the pairs so far with those of this join.
 abbrev pub topJoined : Join → List ℕ → Stack → List Focal
 topJoined op store st = joinLists op (topList store st 2) (topList store st 1)
 
 abbrev pub spent : Stack → ℕ
 spent st = st .pairs + topCount st 2 * topCount st 1
 
--- A join: 13, the pairs exceed the allowance; 14, its list has more than 256 different intervals; else its list goes behind the others
--- and stands for the two.
+-- A join's entry: 13, the pairs exceed the allowance; 14, its list has more than 256 different intervals; else its list goes behind the
+-- others and stands for the two.
 abbrev pub stop : ℕ → Stack → Step
 stop number st = record { number = number; stack = st }
 

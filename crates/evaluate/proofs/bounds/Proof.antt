@@ -10,7 +10,7 @@ use Rattle.plan.specs.Tests.{firstBroken}
 use Rattle.plan.specs.Plan.{componentsOf}
 use Rattle.plan.specs.Valid.{Valid}
 use Rattle.run.specs.Run.{needed, walked, ranOf, storeOf}
-use Rattle.evaluate.specs.Answer.{planOf, callTests, refusal}
+use Rattle.evaluate.specs.Answer.{planOf, callTests}
 use Rattle.evaluate.proofs.Numbers.{tests-say, tested-is}
 use Rattle.evaluate.proofs.Finish.{tested-call, Finished, plan-valid, finish}
 use borrow.Author.Needs.{needs}

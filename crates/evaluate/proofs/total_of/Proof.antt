@@ -5,29 +5,27 @@ use mathlib.Core.List.{List, map}
 use native.Mathlib.Nat.{mul-assoc, mul-one, one-mul, mul-le-mul, le-trans, le-of-eq, pow-zero, pow-suc}
 use native.Mathlib.Numerals.{add-one}
 use native.Mathlib.Omega.{arith}
+use Rattle.theory.specs.Limits.{mostTotal}
 use Rattle.theory.specs.Focal.{total}
-use Rattle.theory.specs.Lists.{noComponent}
-use Rattle.theory.specs.declared.Component.{Component}
-use Rattle.theory.proofs.Every.{index-of-every, every-map}
 use Rattle.theory.proofs.Totals.{thousands}
 use Rattle.plan.specs.declared.Plan.{Plan}
 use Rattle.plan.specs.Plan.{componentAt, componentsOf}
-use Rattle.plan.proofs.Loops.{from, from-zero, from-next, from-end}
 use Rattle.plan.specs.Valid.{Valid}
-use Rattle.plan.proofs.Entries.{components-count, component-is}
+use Rattle.plan.proofs.Loops.{from, from-zero, from-next, from-end}
+use Rattle.plan.proofs.Tests.{every-below}
 use borrow.Author.Needs.{needs}
 use Rattle.evaluate.proofs.total_of.Statement.{statement}
 use Rattle.evaluate.proofs.total_of.Tie as tie
 
--- the components from i on
-abbrev rest : Plan → ℕ → List Component
-rest p i = map (componentAt p) (from i (p .count))
+-- the product of the totals of some components of a plan
+abbrev totalAt : Plan → List ℕ → ℕ
+totalAt p is = total (map (componentAt p) is)
 
-small : {p : Plan} → Valid p → (i : ℕ) → i < p .count → (componentAt p i) .total ≤ 1000
-small {p} K i h = rw (component-is p i h) at (index-of-every noComponent (every-map (λ c r. r .1) (K .totals)) i (omega (arith, components-count p)))
+small : {p : Plan} → Valid p → (i : ℕ) → i < p .count → (componentAt p i) .total ≤ mostTotal
+small {p} valid i h = every-below (componentAt p) 0 (p .count) i (valid .totals) (omega arith) (omega arith) .1
 
 abbrev Inv-loop : tie.InvT-loop
-Inv-loop p n product₀ i₀ product i = (i ≤ p .count) × (product * total (rest p i) ≡ total (componentsOf p)) × (product ≤ 1000 ^ i)
+Inv-loop p n product₀ i₀ product i = (i ≤ p .count) × (product * totalAt p (from i (p .count)) ≡ total (componentsOf p)) × (product ≤ mostTotal ^ i)
 
 abbrev μ-loop : tie.MeasureT-loop
 μ-loop p n product₀ i₀ product i = n - i
@@ -35,46 +33,39 @@ abbrev μ-loop : tie.MeasureT-loop
 loop-holds : tie.Need-loop-holds Inv-loop μ-loop
 loop-holds c =
     let p = c .args .t1 in
-    (omega arith, one-mul (total (rest p 0)) ∙ ap (λ (is : List ℕ). total (map (componentAt p) is)) (from-zero (p .count)), le-of-eq (sym (pow-zero 1000)))
-
-mul-c : tie.Need-mul-c Inv-loop μ-loop
-mul-c c = search needs
+    (omega arith, one-mul (totalAt p (from 0 (p .count))) ∙ ap (totalAt p) (from-zero (p .count)), le-of-eq (sym (pow-zero mostTotal)))
 
 element-copy-out-c : tie.Need-element-copy-out-c Inv-loop μ-loop
 element-copy-out-c c = omega (arith, c .before .before .pre .most)
 
-cast-product : tie.Need-cast-product Inv-loop μ-loop
-cast-product c = search needs
-
 mul-product : tie.Need-mul-product Inv-loop μ-loop
 mul-product c =
-    let l = c .before .before in
-    record { fits = thousands (l .before .loop .product) _ (l .before .loop .i) 1 (l .before .loop .inv .2) (small (l .before .before .pre) (l .before .loop .i) (omega arith)) (omega (arith, l .before .before .pre .most)) }
-
-add-i : tie.Need-add-i Inv-loop μ-loop
-add-i c = search needs
-
-loop-less : tie.Need-loop-less Inv-loop μ-loop
-loop-less c = search needs
+    let l = c .before .before .before in
+    let valid = l .before .pre in
+    let i = l .loop .i in
+    record { fits = thousands (l .loop .product) _ i 1 (l .loop .inv .2) (small valid i (omega arith)) (omega (arith, valid .most)) }
 
 loop-again : tie.Need-loop-again Inv-loop μ-loop
 loop-again c =
-    let l = c .before .before in
-    let p = l .before .before .args .t1 in
-    let i = l .before .loop .i in
+    let l = c .before .before .before in
+    let p = l .before .args .t1 in
+    let i = l .loop .i in
     let h : i < p .count = omega arith in (
       omega arith,
-      mul-assoc (l .before .loop .product) ((componentAt p i) .total) (total (rest p (i + 1)))
-          ∙ (ap (λ (is : List ℕ). l .before .loop .product * total (map (componentAt p) is)) (sym (from-next i (p .count) h)) ∙ l .before .loop .inv .1),
-      rw (add-one i) (le-trans (mul-le-mul (l .before .loop .inv .2) (small (l .before .before .pre) i h)) (le-of-eq (sym (pow-suc 1000 i)))),
+      mul-assoc (l .loop .product) ((componentAt p i) .total) (totalAt p (from (i + 1) (p .count)))
+          ∙ (ap (λ (is : List ℕ). l .loop .product * totalAt p is) (sym (from-next i (p .count) h)) ∙ l .loop .inv .1),
+      rw (add-one i) (le-trans (mul-le-mul (l .loop .inv .2) (small (l .before .pre) i h)) (le-of-eq (sym (pow-suc mostTotal i)))),
     )
 
 returns : tie.Need-returns Inv-loop μ-loop
 returns c =
-    let p = c .before .before .args .t1 in
-    let e : total (rest p (c .before .loop .i)) ≡ 1 = ap (λ (is : List ℕ). total (map (componentAt p) is)) (from-end (c .before .loop .i) (p .count) (omega arith)) in
-    sym (mul-one (c .before .loop .product)) ∙ (ap (c .before .loop .product *_) (sym e) ∙ c .before .loop .inv .1)
+    let l = c .before in
+    let p = l .before .args .t1 in
+    let e : totalAt p (from (l .loop .i) (p .count)) ≡ 1 = ap (totalAt p) (from-end (l .loop .i) (p .count) (omega arith)) in
+    sym (mul-one (l .loop .product)) ∙ (ap (l .loop .product *_) (sym e) ∙ l .loop .inv .1)
 
 pub total-of-spec : {M : Type 1} → statement M
 total-of-spec =
-    tie.close (tie.spec Inv-loop μ-loop loop-holds mul-c element-copy-out-c cast-product mul-product add-i loop-less loop-again returns)
+    tie.close
+    (tie.spec Inv-loop μ-loop loop-holds (λ c. search needs) element-copy-out-c (λ c. search needs) mul-product (λ c. search needs)
+    (λ c. search needs) loop-again returns)

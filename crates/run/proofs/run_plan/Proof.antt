@@ -1,19 +1,17 @@
 -- `run::run_plan` meets its contract: one entry after the other, and then the list that is left goes to the front. Assumes nothing.
 use Prim.Native.Nat.{ℕ, suc, _≤_, _<_, _-_}
-use mathlib.Core.Path.{_≡_, sym, ap, subst, _∙_}
+use mathlib.Core.Path.{_≡_, sym, ap, _∙_}
 use mathlib.Core.Logic.{⊎-elim}
-use mathlib.Core.List.{List, [], _∷_}
+use mathlib.Core.List.{[], _∷_}
 use native.Mathlib.Numerals.{add-one}
 use native.Mathlib.Omega.{arith}
 use lib.ListN.{length, getD, drop, drop-of-length-le}
-use Rattle.theory.specs.Limits.{entryCount}
 use Rattle.theory.specs.declared.Entry.{Entry}
 use Rattle.theory.specs.declared.Entry.the-variants.{Component as component, Join as join}
 use Rattle.records.proofs.Records.{length-records}
 use Rattle.plan.specs.declared.Plan.{Plan}
 use Rattle.plan.specs.Plan.{entriesOf}
 use Rattle.plan.proofs.Entries.{entries-count}
-use Rattle.run.specs.declared.Stack.{Stack}
 use Rattle.run.specs.Stack.{listAt}
 use Rattle.run.specs.Run.{needed}
 use Rattle.run.proofs.Entries.{entries-from}
@@ -79,9 +77,9 @@ returns c =
     let k = a .before .before .before in
     let e = k .before .before in
     let s = start e in
-    let R = running-at e (k .entry2 .given .1) in
-    let w = join-out (s .pre .0) (s .pre .1) R (a .apply .result) (a .apply .last .1 .1 .0) (a .apply .ensures .0) (a .apply .ensures .1) .1 (c .before .before .before .before .if1 .taken) in
-    let l : drop (needed (p e)) (a .apply .last .1 .1 .0) ≡ drop (needed (p e)) (s .args .store .now) = ap (drop (needed (p e))) (a .apply .ensures .1) ∙ join-later (s .pre .0) (s .pre .1) R in
+    let running = running-at e (k .entry2 .given .1) in
+    let w = join-out (s .pre .0) (s .pre .1) running (a .apply .result) (a .apply .last .1 .1 .0) (a .apply .ensures .0) (a .apply .ensures .1) .1 (c .before .before .before .before .if1 .taken) in
+    let l : drop (needed (p e)) (a .apply .last .1 .1 .0) ≡ drop (needed (p e)) (s .args .store .now) = ap (drop (needed (p e))) (a .apply .ensures .1) ∙ join-later (s .pre .0) (s .pre .1) running in
     (rw w, rw w (clears (turn e .before .before .before .needed .ensures) (a .apply .last .1 .1 .0) (s .args .store .now) (c .before .before .clear .last .0) l (c .before .before .clear .ensures)))
 
 loop-again : tie.Need-loop-again Inv-loop μ-loop
@@ -107,18 +105,18 @@ settle-requires : tie.Need-settle-requires Inv-loop μ-loop
 settle-requires c κs =
     let b = c .before .before .before .before in
     let s = b .before .before .before .before .before in
-    let R = ended (c .before .before .before) in
-    (omega (arith, R .stored .apart 0 (omega (arith, finished (s .pre .0) R .0)), in-region (s .pre .0) R), omega (arith, R .stored .same-length))
+    let running = ended (c .before .before .before) in
+    (omega (arith, running .stored .apart 0 (omega (arith, finished (s .pre .0) running .0)), in-region (s .pre .0) running), omega (arith, running .stored .same-length))
 
 returns-2 : tie.Need-returns-2 Inv-loop μ-loop
 returns-2 c =
     let b = c .before .before .before .before .before .before .before in
     let s = b .before .before .before .before .before in
-    let R = ended (c .before .before .before .before .before .before) in
+    let running = ended (c .before .before .before .before .before .before) in
     let st = b .loop .stack in
-    let w = finished (s .pre .0) R .1 in
+    let w = finished (s .pre .0) running .1 in
     let n : length (listAt (b .loop .store) st 0) ≡ getD (st .counts) 0 0 = length-records (getD (st .counts) 0 0) (drop (getD (st .starts) 0 0) (b .loop .store)) in
-    (rw (w, n), rw w (fills (b .before .before .needed .ensures) (b .loop .store) (s .args .store .now) (c .before .before .settle .last .0) (R .stored .later) (listAt (b .loop .store) st 0) (c .before .before .settle .ensures)))
+    (rw (w, n), rw w (fills (b .before .before .needed .ensures) (b .loop .store) (s .args .store .now) (c .before .before .settle .last .0) (running .stored .later) (listAt (b .loop .store) st 0) (c .before .before .settle .ensures)))
 
 pub run-plan-spec : {M : Type 1} → statement M
 run-plan-spec =
