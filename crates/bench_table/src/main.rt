@@ -2,16 +2,13 @@
 // the table. Prints a line for each row, and how many rows disagreed. What is printed is open in the contracts.
 use evaluate::Answer;
 use libc::STDOUT_FILENO;
-use sheet::Plan;
+use plan::Plan;
+use plan::SERIES_CODE;
+use plan::SHARED_CODE;
+use plan::SPARE_CODE;
 use theory::Component;
 ghost use mathlib.Core.Path.{_≡_};
 ghost use Prim.Native.Nat.{_≤_, _<_};
-
-const SERIES: u8 = 8;
-
-const SHARED: u8 = 9;
-
-const SPARE: u8 = 10;
 
 // A sheet: the first `length` bytes.
 struct Sheet {
@@ -103,7 +100,7 @@ fn certain() -> Component {
 
 fn written(p: Plan) -> Sheet {
     let mut bytes = [0u8; 255];
-    let w = sheet::write_sheet(p, &mut bytes);
+    let w = writing::write_sheet(p, &mut bytes);
     Sheet {
         bytes: bytes,
         length: w.length,
@@ -113,9 +110,9 @@ fn written(p: Plan) -> Sheet {
 // The sheet of one component.
 fn one(x: Component) -> Sheet {
     written(Plan {
-        components: [x; 6],
+        components: [x; theory::MOST_COMPONENTS],
         count: 1,
-        entries: [0; 11],
+        entries: [0; theory::MOST_ENTRIES],
     })
 }
 
@@ -136,7 +133,7 @@ fn wide_sheet(count: u16) -> Sheet {
     written(Plan {
         components: [d1, d2, d3, d1, d1, d1],
         count: 3,
-        entries: [0, 1, SHARED, 2, SHARED, 0, 0, 0, 0, 0, 0],
+        entries: [0, 1, SHARED_CODE, 2, SHARED_CODE, 0, 0, 0, 0, 0, 0],
     })
 }
 
@@ -163,7 +160,7 @@ fn asked(s: Sheet, demand: u32, allowance: u32) -> Call {
         sheet: s,
         demand: demand,
         allowance: allowance,
-        room: 16384,
+        room: theory::STORE_BYTES,
     }
 }
 
@@ -173,7 +170,7 @@ fn asked_short(s: Sheet, demand: u32, allowance: u32) -> Call {
         sheet: s,
         demand: demand,
         allowance: allowance,
-        room: 16383,
+        room: theory::STORE_BYTES - 1,
     }
 }
 
@@ -199,19 +196,13 @@ fn refused(number: u8) -> Answer {
     }
 }
 
-fn wide(x: u8) -> u64
-    ensures { λ r. ⌜ r ≡ x ⌝ }
-{
-    x as u64
-}
-
 fn print(word: &[u8], n: u64) {
     io::write_all(STDOUT_FILENO, word);
     io::print_decimal(STDOUT_FILENO, n);
 }
 
 fn print_answer(a: Answer) {
-    print(b": number ", wide(a.number));
+    print(b": number ", numbers::wide(a.number));
     print(b", total ", a.total);
     print(b", belief ", a.belief);
     print(b", plausibility ", a.plausibility);
@@ -220,16 +211,25 @@ fn print_answer(a: Answer) {
 }
 
 // Prints record i.
-fn print_record(store: &[u8; 16384], i: usize)
+fn print_record(store: &[u8; theory::STORE_BYTES], i: usize)
     requires { ⌜ i < 256 ⌝ }
 {
-    print(b" [", numbers::read_number(store, 12 * i, 2));
-    print(b",", numbers::read_number(store, 12 * i + 2, 2));
-    print(b"] ", numbers::read_number(store, 12 * i + 4, 8));
+    print(
+        b" [",
+        numbers::read_number(store, theory::RECORD_BYTES * i, 2),
+    );
+    print(
+        b",",
+        numbers::read_number(store, theory::RECORD_BYTES * i + 2, 2),
+    );
+    print(
+        b"] ",
+        numbers::read_number(store, theory::RECORD_BYTES * i + 4, 8),
+    );
 }
 
 // Prints a short list.
-fn print_list(store: &[u8; 16384], count: u64) {
+fn print_list(store: &[u8; theory::STORE_BYTES], count: u64) {
     if 4 < count {
         return;
     }
@@ -241,22 +241,22 @@ fn print_list(store: &[u8; 16384], count: u64) {
 }
 
 // Whether record i is the one that the list has: three numbers for each record.
-fn record_agrees(store: &[u8; 16384], i: usize, list: &[u64]) -> bool
+fn record_agrees(store: &[u8; theory::STORE_BYTES], i: usize, list: &[u64]) -> bool
     requires { ⌜ i < 256 ⌝ }
 {
     if list.len() < 3 * i + 3 {
         return false;
     }
-    if numbers::read_number(store, 12 * i, 2) != list[3 * i] {
+    if numbers::read_number(store, theory::RECORD_BYTES * i, 2) != list[3 * i] {
         return false;
     }
-    if numbers::read_number(store, 12 * i + 2, 2) != list[3 * i + 1] {
+    if numbers::read_number(store, theory::RECORD_BYTES * i + 2, 2) != list[3 * i + 1] {
         return false;
     }
-    numbers::read_number(store, 12 * i + 4, 8) == list[3 * i + 2]
+    numbers::read_number(store, theory::RECORD_BYTES * i + 4, 8) == list[3 * i + 2]
 }
 
-fn list_agrees(store: &[u8; 16384], count: u64, list: &[u64]) -> bool {
+fn list_agrees(store: &[u8; theory::STORE_BYTES], count: u64, list: &[u64]) -> bool {
     let mut same = true;
     for i in 0..256 {
         if (i as u64) < count {
@@ -296,7 +296,7 @@ fn answered(bytes: [u8; 255], length: usize, c: Call, store: &mut [u8]) -> Answe
 
 // Runs a row, prints what came out and whether it agrees with the table. Answers how many rows disagree so far.
 fn row(name: &[u8], c: Call, want: Answer, list: &[u64], disagree: u64) -> u64 {
-    let mut store = [0u8; 16384];
+    let mut store = [0u8; theory::STORE_BYTES];
     let s = c.sheet;
     let bytes = s.bytes;
     let a = answered(bytes, s.length, c, &mut store);
@@ -313,60 +313,46 @@ fn row(name: &[u8], c: Call, want: Answer, list: &[u64], disagree: u64) -> u64 {
     std::num::wrapping_add_u64(disagree, 1)
 }
 
-// The list of case P2: low, high and weight of each interval.
-const SHARED_LIST: [u64; 12] = [1, 1, 2, 1, 4, 1, 3, 4, 6, 3, 7, 3];
+// The sheet of case P2.
+fn shared_sheet() -> Sheet {
+    two(part_a(), part_b(), SHARED_CODE)
+}
+
+// An accepted row of case P2.
+fn shared_row(name: &[u8], c: Call, belief: u64, plausibility: u64, disagree: u64) -> u64 {
+    row(
+        name,
+        c,
+        accepted(12, belief, plausibility, 4, 4),
+        &[1, 1, 2, 1, 4, 1, 3, 4, 6, 3, 7, 3],
+        disagree,
+    )
+}
 
 // P1 to P6.
 fn rows_of_a_and_b() -> u64 {
-    let series = two(part_a(), part_b(), SERIES);
-    let shared = two(part_a(), part_b(), SHARED);
-    let spare = two(part_a(), part_b(), SPARE);
-    let list = SHARED_LIST;
+    let shared = shared_sheet();
     let mut n = row(
         b"P1 A, B series, demand 2",
-        asked(series, 2, 1000),
+        asked(two(part_a(), part_b(), SERIES_CODE), 2, 1000),
         accepted(12, 0, 3, 4, 3),
         &[0, 0, 3, 1, 1, 6, 1, 3, 3],
         0,
     );
-    n = row(
+    n = shared_row(
         b"P2 A, B shared, demand 1",
         asked(shared, 1, 1000),
-        accepted(12, 12, 12, 4, 4),
-        &list,
+        12,
+        12,
         n,
     );
-    n = row(
-        b"P3 same, demand 3",
-        asked(shared, 3, 1000),
-        accepted(12, 9, 10, 4, 4),
-        &list,
-        n,
-    );
-    n = row(
-        b"P4 same, demand 7",
-        asked(shared, 7, 1000),
-        accepted(12, 0, 3, 4, 4),
-        &list,
-        n,
-    );
-    n = row(
-        b"P4 same, demand 8",
-        asked(shared, 8, 1000),
-        accepted(12, 0, 0, 4, 4),
-        &list,
-        n,
-    );
-    n = row(
-        b"P5 same, demand 0",
-        asked(shared, 0, 1000),
-        accepted(12, 12, 12, 4, 4),
-        &list,
-        n,
-    );
+    n = shared_row(b"P3 same, demand 3", asked(shared, 3, 1000), 9, 10, n);
+    n = shared_row(b"P4 same, demand 7", asked(shared, 7, 1000), 0, 3, n);
+    n = shared_row(b"P4 same, demand 8", asked(shared, 8, 1000), 0, 0, n);
+    n = shared_row(b"P5 same, demand 0", asked(shared, 0, 1000), 12, 12, n);
     row(
         b"P6 A, B spare, demand 0",
-        asked(spare, 0, 1000),
+        asked(two(part_a(), part_b(), SPARE_CODE), 0, 1000),
         accepted(12, 12, 12, 4, 4),
         &[1, 1, 2, 1, 4, 1, 2, 3, 6, 2, 4, 3],
         n,
@@ -375,7 +361,7 @@ fn rows_of_a_and_b() -> u64 {
 
 // P7 and P8.
 fn rows_of_w(disagree: u64) -> u64 {
-    let s = two(first_of_w(), second_of_w(), SERIES);
+    let s = two(first_of_w(), second_of_w(), SERIES_CODE);
     let list: &[u64] = &[0, 4, 2000, 0, 6, 5360, 3, 8, 2211, 7, 10, 429];
     let n = row(
         b"P7 W, demand 0",
@@ -395,13 +381,12 @@ fn rows_of_w(disagree: u64) -> u64 {
 
 // P9 and P10.
 fn rows_of_p2_refused(disagree: u64) -> u64 {
-    let shared = two(part_a(), part_b(), SHARED);
-    let list = SHARED_LIST;
-    let mut n = row(
+    let shared = shared_sheet();
+    let mut n = shared_row(
         b"P9 case P2, demand 3, allowance 4",
         asked(shared, 3, 4),
-        accepted(12, 9, 10, 4, 4),
-        &list,
+        9,
+        10,
         disagree,
     );
     n = row(
@@ -459,9 +444,8 @@ fn rows_of_d(disagree: u64) -> u64 {
 
 // The totals, the buffers and the last structure.
 fn rows_of_limits(disagree: u64) -> u64 {
-    let shared = two(part_a(), part_b(), SHARED);
+    let shared = shared_sheet();
     let s = one(certain());
-    let list = SHARED_LIST;
     let mut n = row(
         b"T 1,000, demand 1",
         asked(s, 1, 1000),
@@ -476,11 +460,11 @@ fn rows_of_limits(disagree: u64) -> u64 {
         &[],
         n,
     );
-    n = row(
+    n = shared_row(
         b"buffer 16,384 bytes, demand 3",
         asked(shared, 3, 1000),
-        accepted(12, 9, 10, 4, 4),
-        &list,
+        9,
+        10,
         n,
     );
     n = row(

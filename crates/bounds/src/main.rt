@@ -4,20 +4,16 @@ use evaluate::Answer;
 use libc::STDIN_FILENO;
 use libc::STDOUT_FILENO;
 ghost use mathlib.Core.Path.{_≡_};
-ghost use Prim.Native.Nat.{_+_, _*_, _≤_, _<_};
+ghost use Prim.Native.Nat.{_+_, _*_, _≤_};
 ghost use lib.ListN.{length};
+ghost use Rattle.field.specs.Bits.{fieldAt};
 
-fn wide(x: u8) -> u32
-    ensures { λ r. ⌜ (r ≡ x) × (r < 256) ⌝ }
+// The number in four bytes from `at` on, most significant first.
+fn word(input: &[u8], at: usize) -> u32
+    requires { ⌜ (at ≤ 4) × (at + 4 ≤ length (now input)) ⌝ }
+    ensures { λ r. ⌜ r ≡ fieldAt (now (input .entry)) (8 * at) 32 ⌝ }
 {
-    x as u32
-}
-
-// Four bytes as a number, most significant first.
-fn number(a: u8, b: u8, c: u8, d: u8) -> u32
-    ensures { λ r. ⌜ r ≡ a * 16777216 + b * 65536 + c * 256 + d ⌝ }
-{
-    wide(a) * 16777216 + wide(b) * 65536 + wide(c) * 256 + wide(d)
+    reader::one(input, 8 * at, 32)
 }
 
 // Reads once more. Answers whether the input may go on: a failed read counts as its end.
@@ -41,7 +37,7 @@ fn print_field(word: &[u8], n: u64) {
 }
 
 fn print_answer(a: Answer) {
-    print_field(b"answer ", wide(a.number) as u64);
+    print_field(b"answer ", numbers::wide(a.number));
     print_field(b" total ", a.total);
     print_field(b" belief ", a.belief);
     print_field(b" plausibility ", a.plausibility);
@@ -64,9 +60,9 @@ fn print_record(store: &[u8], at: usize)
 fn print_list(store: &[u8], count: u64) {
     let mut at = 0;
     let mut left = count;
-    while 0 < left && at + 12 <= store.len() {
+    while 0 < left && at + theory::RECORD_BYTES <= store.len() {
         print_record(store, at);
-        at += 12;
+        at += theory::RECORD_BYTES;
         left -= 1;
     }
 }
@@ -82,9 +78,9 @@ fn main() {
     if n == 264 {
         skip_rest();
     }
-    let demand = number(input[0], input[1], input[2], input[3]);
-    let allowance = number(input[4], input[5], input[6], input[7]);
-    let mut store = [0u8; 16384];
+    let demand = word(&input, 0);
+    let allowance = word(&input, 4);
+    let mut store = [0u8; theory::STORE_BYTES];
     let a = evaluate::bounds(&input[8..n], demand, allowance, &mut store);
     print_answer(a);
     print_list(&store, a.intervals);

@@ -6,7 +6,7 @@ use super::rules::Judged;
 use super::sheets::Sheet;
 use super::sheets::part;
 use evaluate::Answer;
-use sheet::Plan;
+use plan::Plan;
 use theory::Component;
 ghost use mathlib.Core.Path.{_≡_};
 ghost use Prim.Native.Nat.{_*_, _/_, _%_, _^_, _≤_, _<_};
@@ -48,7 +48,7 @@ fn plans_agree(a: Plan, b: Plan) -> bool {
 
 // Whether the reader answers the number, and the plan or a plan of zeros.
 pub fn reading_agrees(s: &[u8], j: Judged) -> bool {
-    let r = sheet::read_sheet(s);
+    let r = reading::read_sheet(s);
     let got = r.plan;
     let want = j.plan;
     wide8(r.number) == j.number && plans_agree(got, want)
@@ -76,7 +76,7 @@ pub fn writing_agrees(p: Plan, s: Sheet, j: Judged, number: u64, room: usize, fi
     requires { ⌜ room ≤ 256 ⌝ }
 {
     let mut out = [fill; 256];
-    let w = sheet::write_sheet(p, &mut out[0..room]);
+    let w = writing::write_sheet(p, &mut out[0..room]);
     let length = if number == 0 { s.length } else { 0 };
     let want = s.bytes;
     if wide8(w.number) != number || w.length != length {

@@ -11,8 +11,8 @@ mod sheets;
 
 use libc::STDOUT_FILENO;
 use numbers::sum;
+use plan::Plan;
 use random::draw;
-use sheet::Plan;
 use sheets::Sheet;
 ghost use Prim.Native.Nat.{_≤_};
 

@@ -5,7 +5,7 @@ use super::numbers::wide16;
 use super::random::draw;
 use super::random::seed_of;
 use super::rules;
-use sheet::Plan;
+use plan::Plan;
 use theory::Component;
 ghost use mathlib.Core.Path.{_≡_};
 ghost use Prim.Native.Nat.{_≤_, _<_, min};

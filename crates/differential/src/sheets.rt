@@ -4,7 +4,7 @@ use super::numbers::wide8;
 use super::numbers::wide16;
 use super::random::draw;
 use super::rules;
-use sheet::Plan;
+use plan::Plan;
 use theory::Component;
 ghost use mathlib.Core.Path.{_≡_};
 ghost use Prim.Native.Nat.{_+_, _*_, _/_, _%_};
