@@ -99,13 +99,12 @@ pub record Filling (out₀ out : List ℕ) (m : ℕ) (rest : List Focal) (g : Fi
   pub goal : fill acc rest ≡ g
 
 -- what is there at the end
-pub record Done (out₀ out : List ℕ) (m : ℕ) (g : Filled) : Type 0 where
-  pub count : m ≡ g .count
-  pub bytes : out ≡ holding out₀ (g .list)
+abbrev pub Done : List ℕ → List ℕ → ℕ → Filled → Type 0
+Done out₀ out m g = (m ≡ g .count) × (out ≡ holding out₀ (g .list))
 
 pub filling-done : {out₀ out : List ℕ} {m : ℕ} {g : Filled} → Filling out₀ out m [] g → Done out₀ out m g
 filling-done {out₀ = out₀} f =
-    record { count = f .held .count ∙ ap (λ (x : Filled). x .count) (f .goal); bytes = f .held .bytes ∙ ap (λ (x : Filled). holding out₀ (x .list)) (f .goal) }
+    (f .held .count ∙ ap (λ (x : Filled). x .count) (f .goal), f .held .bytes ∙ ap (λ (x : Filled). holding out₀ (x .list)) (f .goal))
 
 -- one interval goes in
 module _ {out₀ out : List ℕ} {m : ℕ} {p : Focal} {rest : List Focal} {g : Filled} (f : Filling out₀ out m (p ∷ rest) g) where
@@ -128,10 +127,7 @@ module _ {out₀ out : List ℕ} {m : ℕ} {p : Focal} {rest : List Focal} {g : 
     pub filling-stop : mostIntervals < r .count → Done out₀ e (r .count) g
     filling-stop h =
         let ge : record { list = f .acc; count = length (inserted p (f .acc)) } ≡ g = sym (fill-stops (f .acc) p rest (omega (arith, count))) ∙ f .goal in
-        record {
-          count = count ∙ ap (λ (x : Filled). x .count) ge;
-          bytes = held-stop (f .held) u fits-now q ensures h ∙ ap (λ (x : Filled). holding out₀ (x .list)) ge;
-        }
+        (count ∙ ap (λ (x : Filled). x .count) ge, held-stop (f .held) u fits-now q ensures h ∙ ap (λ (x : Filled). holding out₀ (x .list)) ge)
 
 -- a row of intervals goes in
 module _ {out₀ out : List ℕ} {m : ℕ} (xs rest : List Focal) {g : Filled} (f : Filling out₀ out m (xs ++ rest) g) where
@@ -170,10 +166,7 @@ module _ {out₀ out : List ℕ} {m : ℕ} (xs rest : List Focal) {g : Filled} (
     pub filling-row-stop : mostIntervals < n → Done out₀ e n g
     filling-row-stop h =
         let ge : fill (f .acc) xs ≡ g = sym (fill-off (f .acc) xs rest (f .held .room) (omega (arith, row-count))) ∙ f .goal in
-        record {
-          count = row-count ∙ ap (λ (x : Filled). x .count) ge;
-          bytes = row-bytes ∙ ap (λ (x : Filled). holding out₀ (x .list)) ge;
-        }
+        (row-count ∙ ap (λ (x : Filled). x .count) ge, row-bytes ∙ ap (λ (x : Filled). holding out₀ (x .list)) ge)
 
 -- ---- what is filled where the whole list has at most mostIntervals intervals, and where it has more
 

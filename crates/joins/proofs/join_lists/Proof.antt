@@ -18,7 +18,7 @@ use Rattle.records.proofs.Records.{from-key, records-next, records-end, records
 use Rattle.joins.specs.Filling.{Filled, fill}
 use Rattle.joins.specs.Joins.{rowOf, operandLimit}
 use Rattle.joins.proofs.Holding.{held, length-now}
-use Rattle.joins.proofs.Filling.{Filling, Done, row-insertable, filling-row, filling-row-stop, filling-done}
+use Rattle.joins.proofs.Filling.{Filling, row-insertable, filling-row, filling-row-stop, filling-done}
 use Rattle.joins.proofs.Pairs.{row-under, row-weights}
 use Rattle.joins.proofs.join_lists.Statement.{statement}
 use Rattle.joins.proofs.join_lists.Tie as tie
@@ -114,9 +114,7 @@ returns : tie.Need-returns Inv-loop μ-loop
 returns c =
     let r = c .before .before .before in
     let i = turn-of r in
-    let d : Done (start i .args .out .now) (r .join-row .last .1 .1 .1 .1 .1 .0) (r .join-row .result) (wanted (start i)) =
-    filling-row-stop (this i) (later i) (turn i) (row-small i) (row r) (c .if1 .taken) in
-    (d .count, d .bytes)
+    filling-row-stop (this i) (later i) (turn i) (row-small i) (row r) (c .if1 .taken)
 
 loop-again : tie.Need-loop-again Inv-loop μ-loop
 loop-again c =
@@ -128,10 +126,8 @@ returns-2 : tie.Need-returns-2 Inv-loop μ-loop
 returns-2 c =
     let s = c .before .before .before .before .before in
     let e : drop (c .before .loop .i) (left s) ≡ [] = records-end (s .args .na) (c .before .loop .i) (s .args .a .now) (c .loop-test .left) in
-    let d : Done (s .args .out .now) (c .before .loop .out) (c .before .loop .m) (wanted s) =
     filling-done
-    (subst (λ (l : List Focal). Filling (s .args .out .now) (c .before .loop .out) (c .before .loop .m) (pairs (s .args .op) l (right s)) (wanted s)) e (c .before .loop .inv .1)) in
-    (d .count, d .bytes)
+    (subst (λ (l : List Focal). Filling (s .args .out .now) (c .before .loop .out) (c .before .loop .m) (pairs (s .args .op) l (right s)) (wanted s)) e (c .before .loop .inv .1))
 
 pub join-lists-spec : {M : Type 1} → statement M
 join-lists-spec =
