@@ -65,14 +65,14 @@ module _ {out₀ out : List ℕ} {m : ℕ} {l : List Focal} (h : Held out₀ out
     pub held-count : r .count ≡ length (inserted p l)
     held-count = ap (λ (x : Insertion). x .count) (ensures .0) ∙ (λ k. length (inserted (q k) (view k)))
 
-    left : e ≡ holding (holding out₀ l) (insertOrStay p l)
-    left = ensures .1 ∙ (λ k. holding (h .bytes k) (insertOrStay (q k) (view k)))
+    after : e ≡ holding (holding out₀ l) (insertOrStay p l)
+    after = ensures .1 ∙ (λ k. holding (h .bytes k) (insertOrStay (q k) (view k)))
 
     pub held-step : r .count ≤ mostIntervals → Held out₀ e (r .count) (inserted p l)
     held-step k =
         let fit : length (inserted p l) ≤ mostIntervals = omega (arith, held-count) in
         record {
-          bytes = left ∙ ap (holding (holding out₀ l)) (stay-fits p l fit) ∙ holding-over out₀ l (inserted p l) (length-insert p l .0);
+          bytes = after ∙ ap (holding (holding out₀ l)) (stay-fits p l fit) ∙ holding-over out₀ l (inserted p l) (length-insert p l .0);
           count = held-count;
           room = fit;
           len = h .len;
@@ -82,4 +82,4 @@ module _ {out₀ out : List ℕ} {m : ℕ} {l : List Focal} (h : Held out₀ out
         }
 
     pub held-stop : mostIntervals < r .count → e ≡ holding out₀ l
-    held-stop k = left ∙ ap (holding (holding out₀ l)) (stay-full p l (omega (arith, held-count))) ∙ holding-over out₀ l l (omega arith)
+    held-stop k = after ∙ ap (holding (holding out₀ l)) (stay-full p l (omega (arith, held-count))) ∙ holding-over out₀ l l (omega arith)
