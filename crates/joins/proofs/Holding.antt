@@ -1,6 +1,6 @@
 -- A list that a buffer holds, and one insertion into it. Assumes nothing.
 use mathlib.Core.Path.{_≡_, sym, ap, _∙_}
-use mathlib.Core.List.{List}
+use mathlib.Core.List.{List, []}
 use Prim.Native.Nat.{ℕ, _+_, _*_, _^_, _≤_, _<_}
 use native.Mathlib.Omega.{arith}
 use lib.ListN.{length, drop}
@@ -47,6 +47,11 @@ held out m w b i =
       under = records-under m out b;
       sum = omega (arith, i .fits);
     }
+
+-- at first the list is empty
+pub held-none : (out : List ℕ) → Bytes out → listBytes ≤ length out → Held out out 0 []
+unfolding records
+held-none out b h = held out 0 0 b (record { count = omega arith; room = h; ordered = InOrder.none; fits = omega arith })
 
 module _ {out₀ out : List ℕ} {m : ℕ} {l : List Focal} (h : Held out₀ out m l) where
   pub view : records m out ≡ l

@@ -9,7 +9,6 @@ use lib.ListN.{drop}
 use Rattle.theory.specs.Sums.{Every}
 use Rattle.theory.specs.Focal.{Focal, weights}
 use Rattle.theory.specs.Joins.{pairs}
-use Rattle.theory.specs.Lists.{InOrder}
 use Rattle.theory.proofs.Totals.{weights-pairs}
 use Rattle.records.specs.Records.{keyed, recordAt, records, Under, speedLimit}
 use Rattle.records.specs.Store.{holding}
@@ -17,7 +16,7 @@ use Rattle.records.specs.Insertion.{Insertable}
 use Rattle.records.proofs.Records.{from-key, records-next, records-end, records-each}
 use Rattle.joins.specs.Filling.{Filled, fill}
 use Rattle.joins.specs.Joins.{rowOf, operandLimit}
-use Rattle.joins.proofs.Holding.{held, length-now}
+use Rattle.joins.proofs.Holding.{held-none, length-now}
 use Rattle.joins.proofs.Filling.{Filling, row-insertable, filling-row, filling-row-stop, filling-done}
 use Rattle.joins.proofs.Pairs.{row-under, row-weights}
 use Rattle.joins.proofs.join_lists.Statement.{statement}
@@ -65,13 +64,12 @@ handed : (c : tie.After-weight-at Inv-loop μ-loop) → keyed (c .before .key-at
 handed c = (λ t. keyed (c .before .key-at .ensures t) (c .weight-at .ensures t)) ∙ from-key (own (c .before .before)) (omega (arith, small (c .before .before)))
 
 loop-holds : tie.Need-loop-holds Inv-loop μ-loop
-unfolding records
 loop-holds c =
     let s = c .before .before .before in (
       omega arith,
       record {
         acc = [];
-        held = held (s .args .out .now) 0 0 (λ i. c .slice-known .given i .fits) (record { count = omega arith; room = s .pre .0 .2; ordered = InOrder.none; fits = omega arith });
+        held = held-none (s .args .out .now) (λ i. c .slice-known .given i .fits) (s .pre .0 .2);
         fits = rw (weights-pairs (s .args .op) (left s) (right s), zero-add) (s .pre .1 .1);
         goal = refl;
       },
