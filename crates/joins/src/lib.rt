@@ -21,7 +21,7 @@ use theory::LIST_BYTES;
 use theory::MOST_INTERVALS;
 use theory::RECORD_BYTES;
 
-// the most intervals of a short list, and its bytes
+// The most intervals of a short list, and its bytes.
 const SHORT: usize = 16;
 
 const SHORT_BYTES: usize = RECORD_BYTES * SHORT;
