@@ -34,7 +34,7 @@ module _ (ps : List Focal) where
       ⊎-elim (λ k. absurd (omega (arith, ap (λ (f : Filled). f .count) (fill-made k)))) (λ k. rw (lt-leb (length (collect ps)) mostIntervals k))
       (fits-or-over (length (collect ps)))
 
--- an answer with its number and its length
+-- An answer has its number and its length.
 pub answered : (l : List Focal) (r : Joined) → r ≡ joinedAs l → (r ≡ joinedAs l) × ((joinNumber r ≡ numberOfJoin l) × (joinLength r ≡ lengthOfJoin l))
 answered l r e =
     let k : (joinNumber (joinedAs l) ≡ numberOfJoin l) × (joinLength (joinedAs l) ≡ lengthOfJoin l) =

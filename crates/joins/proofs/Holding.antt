@@ -48,7 +48,7 @@ held out m w b i =
       sum = omega (arith, i .fits);
     }
 
--- at first the list is empty
+-- At first the list is empty.
 pub held-none : (out : List ℕ) → Bytes out → listBytes ≤ length out → Held out out 0 []
 unfolding records
 held-none out b h = held out 0 0 b (record { count = omega arith; room = h; ordered = InOrder.none; fits = omega arith })
@@ -64,7 +64,7 @@ module _ {out₀ out : List ℕ} {m : ℕ} {l : List Focal} (h : Held out₀ out
   insertable w f =
       record { count = omega (arith, h .room, h .count); room = omega (arith, length-now, h .len); ordered = rw view (h .order); fits = rw view f }
 
-  -- what an insertion of p answers and leaves
+  -- One insertion of p.
   module _ {p : Focal} (u : Under speedLimit p) (f : weights l + p .weight < 2 ^ 64) {g : Focal} (q : g ≡ p) {e : List ℕ} {r : Insertion}
       (ensures : (r ≡ insertionOf g (records m out)) × (e ≡ holding out (insertOrStay g (records m out)))) where
     pub held-count : r .count ≡ length (inserted p l)

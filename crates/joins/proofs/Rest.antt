@@ -9,7 +9,7 @@ use Rattle.records.specs.Records.{records}
 use Rattle.records.specs.Store.{copiedFrom, listIn}
 use Rattle.records.proofs.Store.{copy-holds}
 
--- what a copy of the n records from `start` on leaves in z
+-- The n records from `start` on are copied to the front of z.
 pub copied : (s z e : List ℕ) (start n : ℕ) → start + 12 * n ≤ length s → let x = take (start + 12 * n - start) (drop start s) in
     e ≡ take (length x) x ++ drop (length x) z → (e ≡ copiedFrom s start (12 * n) z) × (records n e ≡ listIn s start n)
 copied s z e start n h q =
@@ -18,7 +18,7 @@ copied s z e start n h q =
     let c : e ≡ copiedFrom s start (12 * n) z = q ∙ rw (m, take-length, l) in
     (c, ap (records n) c ∙ copy-holds s (drop (12 * n) z) start n h)
 
--- what stands in the store after its rest from `free` on was lent and came back as e
+-- The rest of the store from `free` on was lent whole and came back as e.
 pub rest-lent : (s : List ℕ) (free : ℕ) (e t : List ℕ) → e ≡ t → take free s ++ (e ++ drop (length s - free) (drop free s)) ≡ take free s ++ t
 rest-lent s free e t q =
     rw (drop-of-length-le (drop free s) {i = length s - free} (omega (arith, length-drop free s)), append-nil) (ap (λ (l : List ℕ). take free s ++ l) q)

@@ -30,7 +30,7 @@ begin c = c .before .before .before .before .before .before .before
 abbrev start : tie.After-join-lists → tie.Start
 start c = begin (first (second c))
 
--- the copies, and what they hold
+-- The copies, and what they hold.
 left : (c : tie.After-copy) → let a = begin c .args in
     let e = c .copy .last .1 .0 in
     (e ≡ copiedFrom (a .store .now) (a .left) (12 * a .na) (a .a .now)) × (records (a .na) e ≡ listIn (a .store .now) (a .left) (a .na))
@@ -41,7 +41,7 @@ right : (c : tie.After-copy2) → let a = begin (first c) .args in
     (e ≡ copiedFrom (a .store .now) (a .right) (12 * a .nb) (a .b .now)) × (records (a .nb) e ≡ listIn (a .store .now) (a .right) (a .nb))
 right c = let a = begin (first c) .args in copied (a .store .now) (a .b .now) _ (a .right) (a .nb) (begin (first c) .pre .1 .second .inside) (c .copy2 .ensures .1)
 
--- the join's own pairs are the operands'
+-- The join's own pairs are the operands'.
 abbrev wanted : tie.Start → List Focal
 wanted s = let a = s .args in pairsIn (a .op) (a .store .now) (a .left) (a .na) (a .right) (a .nb)
 
@@ -69,7 +69,7 @@ join-lists-requires c κs =
       ((rw (left ca .1) (j .first .under), rw (right cb .1) (j .second .under)), rw (left ca .1, right cb .1) (j .fits)),
     )
 
--- the answer with its number and its length, and every byte
+-- The answer with its number and its length, and every byte.
 returns : tie.Need-returns
 returns c =
     let j = c .before .before .before in

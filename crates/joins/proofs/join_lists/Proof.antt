@@ -29,7 +29,7 @@ Inv-loop op a na b nb out₀ m₀ i₀ out m i =
 abbrev μ-loop : tie.MeasureT-loop
 μ-loop op a na b nb out₀ m₀ i₀ out m i = na - i
 
--- the two lists, and the record of this turn
+-- The two lists, and the record of this turn.
 abbrev left : tie.Start Inv-loop μ-loop → List Focal
 left c = records (c .args .na) (c .args .a .now)
 
@@ -59,7 +59,7 @@ turn c =
     subst (λ (l : List Focal). Filling (start c .args .out .now) (c .before .loop .out) (c .before .loop .m) (pairs (start c .args .op) l (right (start c))) (wanted (start c)))
     (records-next (start c .args .na) (c .before .loop .i) (start c .args .a .now) (c .loop-test .taken)) (c .before .loop .inv .1)
 
--- what is handed on is the record
+-- What is handed on is the record.
 handed : (c : tie.After-weight-at Inv-loop μ-loop) → keyed (c .before .key-at .result) (c .weight-at .result) ≡ own (c .before .before)
 handed c = (λ t. keyed (c .before .key-at .ensures t) (c .weight-at .ensures t)) ∙ from-key (own (c .before .before)) (omega (arith, small (c .before .before)))
 
@@ -85,7 +85,7 @@ join-row-requires c κs =
       (start i .pre .0 .1, (subst (Under operandLimit) (sym (handed w)) (small i), start i .pre .1 .0 .1)),
     )
 
--- what the row answers and leaves, of the record
+-- So the row is the record's.
 row : (c : tie.After-join-row Inv-loop μ-loop) → let i = c .before .before .before .before in
     let l = i .before .loop in
     (c .join-row .result ≡ fill (records (l .m) (l .out)) (this i) .count) × (c .join-row .last .1 .1 .1 .1 .1 .0 ≡ holding (l .out) (fill (records (l .m) (l .out)) (this i) .list))

@@ -24,7 +24,7 @@ Inv-loop op key weight b nb out₀ n low high m₀ hint₀ j₀ out m hint j =
 abbrev μ-loop : tie.MeasureT-loop
 μ-loop op key weight b nb out₀ n low high m₀ hint₀ j₀ out m hint j = nb - j
 
--- the interval of the row, the other list, and its interval in this turn
+-- The interval of the row, the other list, and its interval in this turn.
 abbrev own : tie.Start Inv-loop μ-loop → Focal
 own c = keyed (c .args .key) (c .args .weight)
 
@@ -59,7 +59,7 @@ turn c =
 ends : (c : tie.After-key-at Inv-loop μ-loop) → (c .key-at .result / speedLimit ≡ other (c .before) .low) × (c .key-at .result % speedLimit ≡ other (c .before) .high)
 ends c = key-ends (other (c .before)) (c .key-at .ensures) (omega (arith, small (c .before)))
 
--- what goes in is the pair
+-- What goes in is the pair.
 abbrev turn-of : tie.After-product-weight Inv-loop μ-loop → tie.In-loop Inv-loop μ-loop
 turn-of c = c .before .before .before .before .before
 

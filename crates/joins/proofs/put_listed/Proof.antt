@@ -15,7 +15,7 @@ use Rattle.joins.proofs.Listed.{collected, collected-next, collected-sh
 use Rattle.joins.proofs.put_listed.Statement.{statement}
 use Rattle.joins.proofs.put_listed.Tie as tie
 
--- the component as far as its intervals go
+-- The component as far as its intervals go.
 abbrev parts : List ℕ → List ℕ → List ℕ → ℕ → Component
 parts lows highs weights count = record { lows = lows; highs = highs; weights = weights; count = count; total = 0 }
 
@@ -29,7 +29,7 @@ abbrev μ-loop : tie.MeasureT-loop
 abbrev start : tie.In-loop Inv-loop μ-loop → tie.Start Inv-loop μ-loop
 start c = c .before .before .before .before .before .before
 
--- the intervals so far, and the one of this turn
+-- The list so far, and the interval of this turn.
 abbrev so-far : tie.In-loop Inv-loop μ-loop → List Focal
 so-far c = collected (start c .args .c) (c .before .loop .i)
 
