@@ -20,13 +20,13 @@ use Rattle.theory.proofs.Sums.{sum-ext, sum-zero, sum-point}
 use Rattle.theory.proofs.Monotone.{Side, lower, upper, end, end-inside, Bounding, least, greatest, at-least, at-most}
 use Rattle.theory.proofs.Shares.{endSum, drawSum, endSum-cons, drawSum-cons, putOn-sum, meets, shares, shares-is, shareAbove-is, share-bound}
 
--- a sum over the speeds with one term
+-- A sum over the speeds with one term is that term.
 speeds-point : (a : ℕ) (g : ℕ → ℕ) → a ≤ topSpeed → sumBy (λ v. cond (eqb a v) (g v) 0) speeds ≡ g a
 unfolding speeds
 speeds-point a g h = sum-point a g 0 (suc topSpeed) (omega arith) (omega arith)
 
 module _ (side : Side) where
-  -- the whole weight of an interval on one of its ends
+  -- The whole weight of an interval goes on one of its ends.
   abbrev allOn : Focal → Parts
   allOn f s = cond (eqb (end side f) s) (f .weight) 0
 
@@ -63,7 +63,7 @@ module _ (side : Side) where
       ∙ (sum-ext (λ s. ap (putOn (map allOn (masses c)) s *_) (draws-at rs (λ v. G (s ∷ v)))) speeds
       ∙ (at-all r (λ s. endSum side cs (λ v. G (s ∷ v))) ∙ sym (endSum-cons side c cs G)))
 
-  -- it is a division
+  -- These parts are a division.
   splits-at : {fs : List Focal} → Every InRange fs → Splits 1 fs (map allOn fs)
   splits-at Every.none = Forall₂·nil
   splits-at (Every.more {x = f} r rs) =
@@ -76,13 +76,13 @@ module _ (side : Side) where
   share-met : {cs : List Component} → AllInRange cs → (es : List Entry) (d : ℕ) → shareAbove es (atEnds cs) d ≡ shares side d (outcomes es cs)
   share-met {cs} r es d = shareAbove-is es (atEnds cs) d ∙ (draws-at r (meets es d) ∙ sym (shares-is side es cs d))
 
--- with the scale factor 1 the denominator is the total
+-- With the scale factor 1 the denominator is the total.
 total-at-one : (cs : List Component) → shareTotal 1 cs ≡ total cs
 total-at-one [] = refl
 total-at-one (c ∷ cs) = ap₂ _*_ (one-mul (c .total)) (total-at-one cs)
 
 module _ (es : List Entry) {cs : List Component} (r : AllInRange cs) where
-  -- the division with all weight on one end, the lows or the highs
+  -- The division has all weight on one end, the lows or the highs.
   abbrev allAt : Side → Division cs
   allAt side = record { scale = 1; parts = atEnds side cs; scaled = le-refl 1; divides = divides-at side r }
 

@@ -25,12 +25,12 @@ use Rattle.theory.proofs.Collect.{weigh, same-collect}
 use Rattle.theory.proofs.Steps.{weigh-pairs, positive-outcomesOf, run-map}
 use Rattle.theory.proofs.Every.{every-image, every-oneOfEach}
 
--- what a row of intervals, one for each component, comes to through a sub-structure
+-- What a row of intervals, one for each component, comes to through a sub-structure.
 abbrev outcomeAt : List Focal → Tree → Focal
 outcomeAt row (leaf i) = getD row i noFocal
 outcomeAt row (node op l r) = joinedFocal op (outcomeAt row l) (outcomeAt row r)
 
--- its ends are those of the structure function
+-- The structure function has its ends at the ends of the row.
 Φ-tree : (end : Focal → ℕ) → end noFocal ≡ 0 → ((op : Join) (f g : Focal) → end (joinedFocal op f g) ≡ joined op (end f) (end g))
     → (es : List Entry) (t : Tree) → trees es ≡ t ∷ [] → (row : List Focal) → Φ es (map end row) ≡ end (outcomeAt row t)
 Φ-tree end z both es t e row =
@@ -39,7 +39,7 @@ outcomeAt row (node op l r) = joinedFocal op (outcomeAt row l) (outcomeAt row r)
     (λ op x y. both op (outcomeAt row x) (outcomeAt row y)) es []))
     ∙ ap (λ (p : List Tree). getD (map (λ u. end (outcomeAt row u)) p) 0 0) e
 
--- it goes by the intervals of the components that are named
+-- The outcome goes by the intervals of the components that are named.
 outcome-agree : (t : Tree) (u w : List Focal) → ((j : ℕ) → 0 < countOf j (leaves t) → getD w j noFocal ≡ getD u j noFocal) → outcomeAt w t ≡ outcomeAt u t
 outcome-agree (leaf i) u w h = h i (rw (eq-eqb i i refl) (omega arith))
 outcome-agree (node op l r) u w h =
@@ -51,7 +51,7 @@ module _ (cs : List Component) where
   abbrev focalsAt : ℕ → List Focal
   focalsAt i = masses (getD cs i noComponent)
 
-  -- the sum over the focal elements of the components that are listed, in that order, each put at its place of a row
+  -- The sum over the focal elements of the components that are listed, in that order, each put at its place of a row.
   abbrev sumOver : List ℕ → List Focal → (List Focal → ℕ) → ℕ
   sumOver [] row G = G row
   sumOver (i ∷ js) row G = sumBy (λ f. f .weight * sumOver js (set row i f) G) (focalsAt i)
@@ -60,7 +60,7 @@ module _ (cs : List Component) where
   over-append [] ks row G = refl
   over-append (i ∷ js) ks row G = sum-ext (λ f. ap (f .weight *_) (over-append js ks (set row i f) G)) (focalsAt i)
 
-  -- what matters of G are the rows that differ from the given one at most at the listed places
+  -- What matters of G are the rows that differ from the given one at most at the listed places.
   over-ext : (js : List ℕ) (row : List Focal) (G H : List Focal → ℕ)
       → ((u : List Focal) → length u ≡ length row → ((j : ℕ) → countOf j js ≡ 0 → getD u j noFocal ≡ getD row j noFocal) → G u ≡ H u)
       → sumOver js row G ≡ sumOver js row H
@@ -81,13 +81,13 @@ module _ (cs : List Component) where
       ∙ ap (λ (u : List Focal). g .weight * (f .weight * sumOver ks u G)) (set-comm row i j f g ne)) (focalsAt i)
       ∙ sum-scale (g .weight) (λ f. f .weight * sumOver ks (set (set row j g) i f) G) (focalsAt i)) (focalsAt j))
 
-  -- only how often each component is listed matters
+  -- Only how often each component is listed matters.
   over-count : (G : List Focal → ℕ) (ks js : List ℕ) → ((j : ℕ) → countOf j js ≡ countOf j ks) → (row : List Focal) → sumOver js row G ≡ sumOver ks row G
   over-count G ks js h row =
       ap (λ (F : List Focal → ℕ). F row) (by-counts (λ is u. sumOver is u G)
       (λ i is ls e k u. sumBy (λ f. f .weight * e k (set u i f)) (focalsAt i)) (λ i j ne ls k u. over-swap G i j ne ls u k) ks js h)
 
-  -- in leaf order the sum is that over the choices of the sub-structure
+  -- In leaf order the sum is that over the choices of the sub-structure.
   over-tree : (t : Tree) (k : ℕ → ℕ → ℕ) (row : List Focal) → ((j : ℕ) → countOf j (leaves t) ≤ 1) → ((j : ℕ) → 0 < countOf j (leaves t) → j < length row)
       → weigh k (outcomesOf cs t) ≡ sumOver (leaves t) row (λ u. k (outcomeAt u t .low) (outcomeAt u t .high))
   over-tree (leaf i) k row d h =
@@ -103,7 +103,7 @@ module _ (cs : List Component) where
       ∙ over-ext (leaves r) u _ _ (λ w m b. ap (λ (x : Focal). both x (outcomeAt w r)) (sym (outcome-agree l u w (λ j p. b j (omega (arith, d j, c j)))))))
       ∙ sym (over-append (leaves l) (leaves r) row (λ u. both (outcomeAt u l) (outcomeAt u r)))))
 
--- in component order the sum is that over the choices of the components
+-- In component order the sum is that over the choices of the components.
 over-choices : (cs₁ cs₂ : List Component) (p q : List Focal) (k : ℕ) → length cs₁ ≡ k → length p ≡ k → length q ≡ length cs₂ → (G : List Focal → ℕ)
     → sumOver (cs₁ ++ cs₂) (countFrom k (length cs₂)) (p ++ q) G ≡ sumBy (λ ch. productBy (λ f. f .weight) ch * G (p ++ ch)) (choices cs₂)
 over-choices cs₁ [] p [] k a b c G = omega arith
@@ -144,7 +144,7 @@ weigh-outcomes cs es t e names k =
         go true q = (omega arith, λ p. ltb-true j (length cs) q)
         go false q = (omega arith, λ p. absurd (omega arith))
 
--- the outcomes have weights above 0
+-- The outcomes have weights above 0.
 product-positive : {ch : List Focal} → Every Positive ch → 0 < productBy (λ f. f .weight) ch
 product-positive Every.none = omega arith
 product-positive (Every.more p r) = mul-pos p (product-positive r)

@@ -61,7 +61,7 @@ pub order-collect : (fs : List Focal) → InOrder (collect fs)
 order-collect [] = InOrder.none
 order-collect (f ∷ fs) = order-insert f (order-collect fs)
 
--- what insertion keeps of two intervals that become one holds of each of what is collected
+-- What holds of every interval, and of two that become one, holds of each interval that is collected.
 pub every-collect : (P : Focal → Type 0) → ((f g : Focal) → P f → P g → P (merged f g)) → {fs : List Focal} → Every P fs → Every P (collect fs)
 every-collect P m Every.none = Every.none
 every-collect P m (Every.more {x = f} p r) = every-insert P m f p (every-collect P m r)

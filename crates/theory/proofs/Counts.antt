@@ -14,12 +14,12 @@ use Rattle.theory.proofs.Sums.{sum-append, sum-out, sum-point, length-c
 pub count-append : (i : ℕ) (xs ys : List ℕ) → countOf i (xs ++ ys) ≡ countOf i xs + countOf i ys
 count-append i = sum-append (λ j. cond (eqb i j) 1 0)
 
--- a list without the first k in it
+-- A list without the first k in it.
 abbrev del : ℕ → List ℕ → List ℕ
 del k [] = []
 del k (j ∷ js) = cond (eqb k j) js (j ∷ del k js)
 
--- where two numbers in front may change places, any number of the list may stand in front
+-- Where two numbers in front may change places, any number of the list may stand in front.
 module _ {B : Type 0} (F : List ℕ → B) (behind : (i : ℕ) (js ks : List ℕ) → F js ≡ F ks → F (i ∷ js) ≡ F (i ∷ ks))
     (swap : (i j : ℕ) → (i ≡ j → ⊥) → (ks : List ℕ) → F (i ∷ j ∷ ks) ≡ F (j ∷ i ∷ ks)) where
   to-front : (k : ℕ) (js : List ℕ) → 0 < countOf k js → F js ≡ F (k ∷ del k js)
@@ -33,7 +33,7 @@ module _ {B : Type 0} (F : List ℕ → B) (behind : (i : ℕ) (js ks : List ℕ
 count-del : (i k : ℕ) (js : List ℕ) → 0 < countOf k js → countOf i js ≡ cond (eqb i k) 1 0 + countOf i (del k js)
 count-del i = to-front (countOf i) (λ j js ks. ap (cond (eqb i j) 1 0 +_)) (λ j k ne ks. omega arith)
 
--- so only how often each number is listed matters
+-- Then only how often each number is listed matters.
 module _ {B : Type 0} (F : List ℕ → B) (behind : (i : ℕ) (js ks : List ℕ) → F js ≡ F ks → F (i ∷ js) ≡ F (i ∷ ks))
     (swap : (i j : ℕ) → (i ≡ j → ⊥) → (ks : List ℕ) → F (i ∷ j ∷ ks) ≡ F (j ∷ i ∷ ks)) where
   pub by-counts : (ks js : List ℕ) → ((i : ℕ) → countOf i js ≡ countOf i ks) → F js ≡ F ks
@@ -43,7 +43,7 @@ module _ {B : Type 0} (F : List ℕ → B) (behind : (i : ℕ) (js ks : List ℕ
       let p : 0 < countOf k js = omega (arith, rw (eq-eqb k k refl) at (h k)) in
       to-front F behind swap k js p ∙ behind k (del k js) ks (by-counts ks (del k js) (λ i. omega (arith, h i, count-del i k js p)))
 
--- the count from 0 has each number below n once, and no other
+-- The count from 0 has each number below n once, and no other.
 pub count-all : (n : ℕ) → EachOnce n (countFrom 0 n)
 count-all n j = go (ltb j n) refl
   where
@@ -51,7 +51,7 @@ count-all n j = go (ltb j n) refl
     go true e = sum-point j (λ i. 1) 0 n (omega arith) (omega (arith, ltb-true j n e))
     go false e = sum-out j (λ i. 1) 0 n (inr (omega (arith, ltb-false j n e)))
 
--- so a list that does has n numbers
+-- A list that has each number below n once, and no other, has n numbers.
 pub once-length : (n : ℕ) (js : List ℕ) → EachOnce n js → length js ≡ n
 once-length n js once =
     by-counts length (λ i js ks. ap suc) (λ i j ne ks. refl) (countFrom 0 n) js (λ i. once i ∙ sym (count-all n i)) ∙ length-count 0 n

@@ -9,7 +9,7 @@ pub every-map : {A : Type 0} {P Q : A → Type 0} → ((x : A) → P x → Q x) 
 every-map h Every.none = Every.none
 every-map h (Every.more {x = x} p r) = Every.more (h x p) (every-map h r)
 
--- an element, or what stands past the end
+-- The property holds of an element, or of what stands past the end.
 pub every-getD : {A : Type 0} (P : A → Type 0) (z : A) → P z → {xs : List A} → Every P xs → (i : ℕ) → P (getD xs i z)
 every-getD P z e Every.none i = e
 every-getD P z e (Every.more p r) zero = p
@@ -23,7 +23,7 @@ pub every-image : {A B : Type 0} {P : B → Type 0} {Q : A → Type 0} (g : A �
 every-image g h Every.none = Every.none
 every-image g h (Every.more {x = x} p r) = Every.more (h x p) (every-image g h r)
 
--- what holds of each element of each list of a row holds of each element taken
+-- What holds of each element of each list of a row holds of each element taken.
 every-each : {A : Type 0} {P : A → Type 0} {l : List A} → Every P l → (ts : List (List A)) → Every (Every P) ts → Every (Every P) (forEach l (λ x. map (x ∷_) ts))
 every-each Every.none ts q = Every.none
 every-each (Every.more {x = x} p r) ts q = every-append (every-image (x ∷_) (λ t s. Every.more p s) q) (every-each r ts q)
@@ -32,7 +32,7 @@ pub every-oneOfEach : {A : Type 0} {P : A → Type 0} {ls : List (List A)} → E
 every-oneOfEach Every.none = Every.more Every.none Every.none
 every-oneOfEach (Every.more {xs = ls} p r) = every-each p (oneOfEach ls) (every-oneOfEach r)
 
--- an element within the list
+-- The property holds of an element within the list.
 pub index-of-every : {A : Type 0} {P : A → Type 0} (z : A) {xs : List A} → Every P xs → (i : ℕ) → i < length xs → P (getD xs i z)
 index-of-every z Every.none i h = absurd (omega arith)
 index-of-every z (Every.more p r) zero h = p

@@ -10,7 +10,7 @@ use Rattle.theory.specs.Focal.{Focal}
 use Rattle.theory.specs.Lists.{lexically, order, Before, InOrder, merged, insertedAt, inserted, collect, insertAll}
 use Rattle.theory.proofs.Order.{Placed, placed, before-trans, before-same, order-is}
 
--- where a new interval goes
+-- A new interval goes behind those before it and in front of those after it; with an equal one it becomes one.
 pub insert-skip : (f : Focal) {fs : List Focal} → Every (λ g. Before g f) fs → (gs : List Focal) → inserted f (fs ++ gs) ≡ fs ++ inserted f gs
 insert-skip f Every.none gs = refl
 insert-skip f (Every.more {x = g} {xs = fs} p r) gs = rw (order-is f g (Placed.after p)) (ap (g ∷_) (insert-skip f r gs))
@@ -82,12 +82,12 @@ insert-commute f g l = go (placed f g)
         insert-merged f g p q l ∙ (ap (λ (h : Focal). inserted h l) (merged-comm f g p q) ∙ sym (insert-merged g f (sym p) (sym q) l))
     go (Placed.after b) = sym (commute-before g f b l)
 
--- one more interval at the end of what is collected
+-- One more interval at the end may be inserted last.
 pub collect-snoc : (fs : List Focal) (f : Focal) → collect (fs ++ (f ∷ [])) ≡ inserted f (collect fs)
 collect-snoc [] f = refl
 collect-snoc (g ∷ fs) f = ap (inserted g) (collect-snoc fs f) ∙ insert-commute g f (collect fs)
 
--- one insertion after the other collects
+-- One insertion after the other collects.
 insertAll-insert : (f : Focal) (l fs : List Focal) → insertAll (inserted f l) fs ≡ inserted f (insertAll l fs)
 insertAll-insert f l [] = refl
 insertAll-insert f l (g ∷ fs) = ap (λ (k : List Focal). insertAll k fs) (insert-commute g f l) ∙ insertAll-insert f (inserted g l) fs
@@ -96,7 +96,7 @@ pub insertAll-collect : (fs : List Focal) → insertAll [] fs ≡ collect fs
 insertAll-collect [] = refl
 insertAll-collect (f ∷ fs) = insertAll-insert f [] fs ∙ ap (inserted f) (insertAll-collect fs)
 
--- a list grows by at most one, and never shrinks
+-- A list grows by at most one, and never shrinks.
 pub length-insert : (f : Focal) (gs : List Focal) → (length gs ≤ length (inserted f gs)) × (length (inserted f gs) ≤ suc (length gs))
 length-insert f [] = omega arith
 length-insert f (g ∷ gs) = go (order f g) (length-insert f gs)

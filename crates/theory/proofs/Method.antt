@@ -99,7 +99,7 @@ pub record Leaves (cs : List Component) (es : List Entry) (stack : List Tree) (p
   pub list : listOf cs tree ≡ driveList es cs
   pub counted : pairs ≡ pairCount cs tree
 
--- Where each component is named exactly once, in 2n − 1 entries, and each join finds two lists.
+-- It leaves that where each component is named exactly once, in 2n − 1 entries, and each join finds two lists.
 pub method : {cs : List Component} → AllPositive cs → (allowance : ℕ) (es : List Entry)
     → length es + 1 ≡ 2 * length cs → NamedOnce (length cs) es → joinsFindTwo es 0 ≡ true
     → (stack : List Tree) (pairs : ℕ) → evaluate cs allowance es ≡ completed stack pairs → Leaves cs es stack pairs

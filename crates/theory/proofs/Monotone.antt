@@ -31,11 +31,9 @@ joined-le Spare a b = omega arith
 pub test-mono : (d a b : ℕ) → a ≤ b → cond (leb d a) 1 0 ≤ cond (leb d b) 1 0
 test-mono d a b h = go (leb d a) refl
   where
-    go : (t : Bool) → leb d a ≡ t → cond (leb d a) 1 0 ≤ cond (leb d b) 1 0
-    go true e =
-        let k : d ≤ a = leb-true d a e in
-        rw e (rw (le-leb d b (omega arith)) (le-refl 1))
-    go false e = rw e (omega arith)
+    go : (t : Bool) → leb d a ≡ t → cond t 1 0 ≤ cond (leb d b) 1 0
+    go true e = rw (le-leb d b (omega (arith, leb-true d a e))) (le-refl 1)
+    go false e = omega arith
 
 -- What is said of the lows from below and of the highs from above is said once, over the side.
 pub data Side : Type 0 where
@@ -46,7 +44,7 @@ abbrev pub end : Side → Focal → ℕ
 end lower f = f .low
 end upper f = f .high
 
--- a bounds b from that side
+-- Of two numbers the first bounds the second from that side.
 pub data Bounding : Side → ℕ → ℕ → Type 0 where
   least : {a b : ℕ} → a ≤ b → Bounding lower a b
   greatest : {a b : ℕ} → b ≤ a → Bounding upper a b
@@ -65,7 +63,7 @@ pub bounding-trans : {side : Side} {a b c : ℕ} → Bounding side a b → Bound
 bounding-trans (least h) (least k) = least (le-trans h k)
 bounding-trans (greatest h) (greatest k) = greatest (le-trans k h)
 
--- and so do functions that grow with what they are given
+-- A function that grows with what it is given keeps the bound.
 pub bounding-mono : (φ : ℕ → ℕ) → ((a b : ℕ) → a ≤ b → φ a ≤ φ b) → {side : Side} {a b : ℕ} → Bounding side a b → Bounding side (φ a) (φ b)
 bounding-mono φ mono {a = a} {b = b} (least h) = least (mono a b h)
 bounding-mono φ mono {a = a} {b = b} (greatest h) = greatest (mono b a h)
@@ -81,7 +79,7 @@ bounding-add = bounding-mono₂ _+_ (λ a b c d. add-le-add)
 pub bounding-mul : {side : Side} (k : ℕ) {a b : ℕ} → Bounding side a b → Bounding side (k * a) (k * b)
 bounding-mul k = bounding-mono (k *_) (λ a b. mul-le-mul-left k)
 
--- an end bounds what lies inside, and lies inside itself
+-- An end bounds what lies inside, and lies inside itself.
 pub end-bounds : (side : Side) (f : Focal) (s : ℕ) → Inside f s → Bounding side (end side f) s
 end-bounds lower f s h = least (h .0)
 end-bounds upper f s h = greatest (h .1)
@@ -90,7 +88,7 @@ pub end-inside : (side : Side) (f : Focal) → f .low ≤ f .high → Inside f (
 end-inside lower f h = (le-refl (f .low), h)
 end-inside upper f h = (h, le-refl (f .high))
 
--- rows of speeds, one after the other
+-- Rows of speeds are bounded speed by speed.
 module _ (side : Side) where
   abbrev pub BoundingAll : List ℕ → List ℕ → Type 0
   BoundingAll = Forall₂ (Bounding side)

@@ -21,7 +21,7 @@ compare-eq a b e = eqb-true a b (ap isEq e)
 compare-gt : (a b : ℕ) → compare a b ≡ Ordering·gt → b < a
 compare-gt a b e = leb-false a b (ap isLe e)
 
--- what each answer of `order` says
+-- What each answer of `order` says.
 pub data Placed (f g : Focal) : Ordering → Type 0 where
   before : Before f g → Placed f g Ordering·lt
   same : f .low ≡ g .low → f .high ≡ g .high → Placed f g Ordering·eq
@@ -47,7 +47,7 @@ pub before-same : (f g h : Focal) → f .low ≡ h .low → f .high ≡ h .high 
 before-same f g h p q (inl b) = inl (omega arith)
 before-same f g h p q (inr b) = inr (omega arith)
 
--- at most one of the three holds, so `order` says which
+-- At most one of the three holds, so `order` says which.
 never : (f g : Focal) → f .low ≡ g .low → f .high ≡ g .high → Before f g → ⊥
 never f g p q (inl h) = omega arith
 never f g p q (inr h) = omega arith
@@ -69,7 +69,7 @@ order-is f g = placed-unique f g (placed f g)
 pub order-before : (f g : Focal) → Before f g → order f g ≡ Ordering·lt
 order-before f g b = order-is f g (before b)
 
--- whether two are the same interval: never where one comes before the other
+-- Of two intervals one of which comes before the other, the test of sameness is false.
 pub before-apart : (f g : Focal) → Before f g → eqb (f .low) (g .low) && eqb (f .high) (g .high) ≡ false
 before-apart f g (inl p) = rw (ne-eqb (f .low) (g .low) (omega arith)) refl
 before-apart f g (inr p) = rw (eq-eqb (f .low) (g .low) (p .0), ne-eqb (f .high) (g .high) (omega arith)) refl

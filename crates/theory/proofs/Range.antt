@@ -22,6 +22,6 @@ spans es {ch} r = record {
   greatest-met = (highs ch, ends-within upper r, refl);
 }
 
--- every choice of an accepted sheet's components
+-- This holds of every choice of an accepted sheet's components.
 pub spans-choices : (es : List Entry) {cs : List Component} → AllInRange cs → Every (Spans es) (choices cs)
 spans-choices es r = every-map (λ ch. spans es) (every-oneOfEach (every-image masses (λ c h. h) r))

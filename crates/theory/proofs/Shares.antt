@@ -40,12 +40,12 @@ drawSum-cons ps pss G =
     ∙ sum-ext (λ s. sum-ext (λ t. mul-assoc (putOn ps s) (drawWeight pss t) (G (s ∷ t))) (draws pss)
     ∙ sum-scale (putOn ps s) (λ t. drawWeight pss t * G (s ∷ t)) (draws pss)) speeds
 
--- putting one more split on
+-- One more split adds its parts.
 pub putOn-sum : {A : Type 0} (p : A → ℕ) (ps : List (A → ℕ)) (g : A → ℕ) (xs : List A)
     → sumBy (λ s. sumBy (λ q. q s) (p ∷ ps) * g s) xs ≡ sumBy (λ s. p s * g s) xs + sumBy (λ s. sumBy (λ q. q s) ps * g s) xs
 putOn-sum p ps g xs = sum-ext (λ s. add-mul (p s) (sumBy (λ q. q s) ps) (g s)) xs ∙ sum-add (λ s. p s * g s) (λ s. sumBy (λ q. q s) ps * g s) xs
 
--- of two numbers of which one bounds the other wherever k is not 0
+-- A bound that holds wherever k is not 0 holds of k times the numbers.
 guarded : {side : Side} (k a b : ℕ) → (0 < k → Bounding side a b) → Bounding side (k * a) (k * b)
 guarded {side} k a b h = go (eq-zero-or-pos k)
   where
@@ -53,8 +53,8 @@ guarded {side} k a b h = go (eq-zero-or-pos k)
     go (inl z) = rw (z, zero-mul a, zero-mul b) (bounding-refl side 0)
     go (inr p) = bounding-mul k (h p)
 
--- Weights split onto targets: m times each weight is the sum of its parts, and a target that gets a part is bounded by the interval's end. A monotone
--- sum over the weights at their ends then bounds that over the targets.
+-- Weights are split onto targets: m times each weight is the sum of its parts, and the interval's end bounds each target that gets a part.
+-- Then the sum over the weights at their ends bounds that over the targets, for a function that grows. Demand 3 has speeds as targets.
 module _ {A : Type 0} (targets : List A) (place : A → ℕ) (side : Side) (m : ℕ) (Split : Focal → (A → ℕ) → Type 0)
     (inside : (f : Focal) (p : A → ℕ) → Split f p → (t : A) → 0 < p t → Bounding side (end side f) (place t))
     (whole : (f : Focal) (p : A → ℕ) → Split f p → sumBy p targets ≡ m * f .weight)
@@ -92,7 +92,7 @@ draws-bound side m (Forall₂·cons {a = c} {b = ps} {l₁ = cs} {l₂ = pss} h 
 abbrev pub meets : List Entry → ℕ → List ℕ → ℕ
 meets es d v = cond (leb d (Φ es v)) 1 0
 
--- the weights whose end is at least the demand: belief, and plausibility
+-- The weights whose end is at least the demand are belief on the lower side and plausibility on the upper.
 abbrev pub shares : Side → ℕ → List Focal → ℕ
 shares side d = sumBy (λ f. cond (leb d (end side f)) (f .weight) 0)
 
@@ -108,7 +108,7 @@ shares-is side es cs d =
 pub shareAbove-is : (es : List Entry) (pss : List (List Parts)) (d : ℕ) → shareAbove es pss d ≡ drawSum pss (meets es d)
 shareAbove-is es pss d = sum-ext (λ draw. cond-mul (leb d (Φ es draw)) (drawWeight pss draw)) (draws pss)
 
--- the denominators
+-- The denominators differ by m for each component.
 shareTotal-is : (m : ℕ) (cs : List Component) → shareTotal m cs ≡ m ^ length cs * total cs
 shareTotal-is m [] = rw (pow-zero m) refl
 shareTotal-is m (c ∷ cs) =

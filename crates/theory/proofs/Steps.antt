@@ -25,7 +25,7 @@ weigh-pairs k op fs gs =
     ∙ (sum-ext (λ g. mul-assoc (f .weight) (g .weight) (k (joined op (f .low) (g .low)) (joined op (f .high) (g .high)))) gs
     ∙ sum-scale (f .weight) (λ g. g .weight * k (joined op (f .low) (g .low)) (joined op (f .high) (g .high))) gs)) fs
 
--- what a join keeps holds of every pair
+-- What holds of the join of any two intervals holds of every pair.
 pub every-pairs : (times : ℕ → ℕ → ℕ) (op : Join) {P Q R : Focal → Type 0} → ((f g : Focal) → P f → Q g → R (joinedBy times op f g))
     → {fs gs : List Focal} → Every P fs → Every Q gs → Every R (pairsBy times op fs gs)
 every-pairs times op h Every.none q = Every.none

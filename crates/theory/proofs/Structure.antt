@@ -11,11 +11,11 @@ use Rattle.theory.specs.declared.Entry.the-variants.{Component as compon
 use Rattle.theory.specs.Structure.{run, named, NamedOnce, joinsFindTwo, Tree, leaf, node, trees, leaves}
 use Rattle.theory.proofs.Counts.{count-append, once-length}
 
--- a sub-structure that names every component below n once, and no other
+-- A sub-structure names every component below n once, and no other.
 abbrev pub NamesEach : ℕ → Tree → Type 0
 NamesEach n t = EachOnce n (leaves t)
 
--- how often the trees of a stack name a component
+-- How often the trees of a stack name a component.
 abbrev timesNamed : ℕ → List Tree → ℕ
 timesNamed i = sumBy (λ t. countOf i (leaves t))
 
@@ -26,7 +26,7 @@ run-named i (join op ∷ es) [] = run-named i es []
 run-named i (join op ∷ es) (y ∷ []) = run-named i es (y ∷ [])
 run-named i (join op ∷ es) (y ∷ x ∷ stack) = omega (arith, run-named i es (node op x y ∷ stack), count-append i (leaves x) (leaves y))
 
--- the height at the end: each component adds one, each join takes one away
+-- Each component adds one to the height, each join takes one away.
 run-height : (es : List Entry) (stack : List Tree) → joinsFindTwo es (length stack) ≡ true
     → length (run leaf node es stack) + length es ≡ length stack + 2 * length (named es)
 run-height [] stack h = omega arith

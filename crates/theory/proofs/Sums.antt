@@ -45,7 +45,7 @@ module _ {A B : Type 0} where
   sum-forEach f g [] = refl
   sum-forEach f g (x ∷ xs) = sum-append f (g x) (forEach xs g) ∙ ap (sumBy f (g x) +_) (sum-forEach f g xs)
 
-  -- two sums change places
+  -- Two sums may change places.
   pub sum-swap : (f : A → B → ℕ) (xs : List A) (ys : List B) → sumBy (λ x. sumBy (f x) ys) xs ≡ sumBy (λ y. sumBy (λ x. f x y) xs) ys
   sum-swap f [] ys = sym (sum-zero ys)
   sum-swap f (x ∷ xs) ys = ap (sumBy (f x) ys +_) (sum-swap f xs ys) ∙ sym (sum-add (f x) (λ y. sumBy (λ z. f z y) xs) ys)
@@ -55,7 +55,7 @@ module _ {A : Type 0} where
   sum-oneOfEach f l ls =
       sum-forEach f (λ x. map (x ∷_) (oneOfEach ls)) l ∙ sum-ext (λ x. sum-map f (x ∷_) (oneOfEach ls)) l
 
--- a sum with at most one term
+-- A sum with at most one term is 0, or that term.
 pub sum-out : (a : ℕ) (g : ℕ → ℕ) (k n : ℕ) → (a < k) ⊎ (k + n ≤ a) → sumBy (λ v. cond (eqb a v) (g v) 0) (countFrom k n) ≡ 0
 sum-out a g k zero h = refl
 sum-out a g k (suc n) (inl h) = rw (ne-eqb a k (omega arith)) (omega (arith, sum-out a g (suc k) n (inl (omega arith))))
@@ -74,7 +74,7 @@ sum-point a g k (suc n) h l = go (eqb a k) refl (λ i. sum-point a g (suc k) n i
         let q : a ≡ k → ⊥ = eqb-false a k e in
         zero-add _ ∙ r (omega arith)
 
--- a test as a factor
+-- A test is a factor 1 or 0.
 pub cond-mul : (b : Bool) (w : ℕ) → cond b w 0 ≡ w * cond b 1 0
 cond-mul true w = sym (mul-one w)
 cond-mul false w = sym (mul-zero w)

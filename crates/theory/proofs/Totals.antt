@@ -1,9 +1,9 @@
 -- The weights of a list add up to the product of the totals under it, and speeds stay below a bound that joins keep: so all numbers fit. Assumes nothing.
 use Prim.Native.Nat.{ℕ, _+_, _*_, _^_, _≤_, _<_}
-use mathlib.Core.Path.{_≡_, refl, sym, ap, _∙_, subst}
-use mathlib.Core.List.{List, map}
+use mathlib.Core.Path.{_≡_, refl, sym, ap, ap₂, subst, _∙_}
+use mathlib.Core.List.{List, [], _∷_, _++_, map}
 use mathlib.Core.Bool.{true}
-use native.Mathlib.Nat.{mul-comm, mul-le-mul, le-trans, le-of-eq, pow-zero, pow-suc, pow-le-pow-right}
+use native.Mathlib.Nat.{mul-one, one-mul, mul-assoc, mul-comm, mul-le-mul, le-trans, le-of-eq, pow-zero, pow-suc, pow-le-pow-right}
 use native.Mathlib.Omega.{arith}
 use lib.Pow.{pow-add}
 use lib.ListN.{length, getD, length-append}
@@ -26,13 +26,30 @@ use Rattle.theory.proofs.Every.{every-map, every-getD}
 use Rattle.theory.proofs.Structure.{one-tree}
 use Rattle.theory.proofs.Bridge.{drive-is-tree}
 
--- the weights of a join's list multiply
+-- The weights of the pairs add up to the product of the two sums.
 pub weights-pairs : (op : Join) (fs gs : List Focal) → weights (pairs op fs gs) ≡ weights fs * weights gs
 weights-pairs op fs gs =
     weights-weigh (pairs op fs gs)
     ∙ (weigh-pairs (λ a b. 1) op fs gs
     ∙ (sum-ext (λ f. ap (f .weight *_) (sym (weights-weigh gs)) ∙ mul-comm (f .weight) (weights gs)) fs
     ∙ (sum-scale (weights gs) (λ f. f .weight) fs ∙ mul-comm (weights gs) (weights fs))))
+
+-- The weights of a sub-structure's list, and of the drive's, add up to the product of the totals under it.
+abbrev pub totalOf : List Component → Tree → ℕ
+totalOf cs t = productBy (λ i. (getD cs i noComponent) .total) (leaves t)
+
+product-append : {A : Type 0} (f : A → ℕ) (xs ys : List A) → productBy f (xs ++ ys) ≡ productBy f xs * productBy f ys
+product-append f [] ys = sym (one-mul (productBy f ys))
+product-append f (x ∷ xs) ys = ap (f x *_) (product-append f xs ys) ∙ sym (mul-assoc (f x) (productBy f xs) (productBy f ys))
+
+weights-outcomesOf : {cs : List Component} → Balanced cs → (t : Tree) → weights (outcomesOf cs t) ≡ totalOf cs t
+weights-outcomesOf p (leaf i) = every-getD (λ c. weights (masses c) ≡ c .total) noComponent refl p i ∙ sym (mul-one _)
+weights-outcomesOf {cs} p (node op l r) =
+    weights-pairs op (outcomesOf cs l) (outcomesOf cs r)
+    ∙ (ap₂ _*_ (weights-outcomesOf p l) (weights-outcomesOf p r) ∙ sym (product-append (λ i. (getD cs i noComponent) .total) (leaves l) (leaves r)))
+
+pub weights-listOf : {cs : List Component} → Balanced cs → (t : Tree) → weights (listOf cs t) ≡ totalOf cs t
+weights-listOf {cs} p t = weights-collect (outcomesOf cs t) ∙ weights-outcomesOf p t
 
 weights-choices : {cs : List Component} → Balanced cs → sumBy (productBy (λ f. f .weight)) (choices cs) ≡ total cs
 weights-choices Every.none = refl
@@ -44,13 +61,13 @@ weights-choices (Every.more {x = c} {xs = cs} p r) =
 pub weights-driveList : {cs : List Component} → Balanced cs → (es : List Entry) → weights (driveList es cs) ≡ total cs
 weights-driveList {cs} p es = weights-collect (outcomes es cs) ∙ (sum-map (λ f. f .weight) (outcome es) (choices cs) ∙ weights-choices p)
 
--- a product of numbers up to k
+-- A product of numbers up to k is at most a power of k.
 pub product-le : {A : Type 0} (f : A → ℕ) (k : ℕ) → {xs : List A} → Every (λ x. f x ≤ k) xs → productBy f xs ≤ k ^ length xs
 product-le f k Every.none = le-of-eq (sym (pow-zero k))
 product-le f k (Every.more {xs = xs} p r) =
     le-trans (mul-le-mul p (product-le f k r)) (le-of-eq (mul-comm k (k ^ length xs) ∙ sym (pow-suc k (length xs))))
 
--- so U is at most 10 to the 18th for six components
+-- U is at most 10 to the 18th for six components.
 pub total-le : {cs : List Component} → Every (λ c. c .total ≤ mostTotal) cs → total cs ≤ mostTotal ^ length cs
 total-le = product-le (λ c. c .total) mostTotal
 
@@ -59,7 +76,7 @@ thousands a b m n p q h =
     let l : a * b ≤ mostTotal ^ mostComponents = le-trans (mul-le-mul p q) (le-trans (le-of-eq (sym (pow-add mostTotal m n))) (pow-le-pow-right (omega arith) h)) in
     omega arith
 
--- ---- what is formed fits its place
+-- ---- What is formed fits its place.
 
 joined-upTo : (m n : ℕ) (op : Join) (f g : Focal) → UpTo (topSpeed * m) f → UpTo (topSpeed * n) g → UpTo (topSpeed * (m + n)) (joinedFocal op f g)
 joined-upTo m n op f g p q = record {
@@ -83,36 +100,37 @@ module _ {m n : ℕ} (op : Join) {l r : List Focal} (p : Fits m l) (q : Fits n r
   pub fits-join : Fits (m + n) (joinLists op l r)
   fits-join = fits-collect fits-pairs
 
-  -- the product of two weights fits 64 bits, and so does any sum of them
-  pub fits-product : m + n ≤ mostComponents → weights l * weights r < 2 ^ 64
-  fits-product = thousands (weights l) (weights r) m n (p .sum) (q .sum)
+-- The weights of a join's list fit 64 bits.
+pub fits-product : {m n : ℕ} {l r : List Focal} → Fits m l → Fits n r → m + n ≤ mostComponents → weights l * weights r < 2 ^ 64
+fits-product {m} {n} {l} {r} p q = thousands (weights l) (weights r) m n (p .sum) (q .sum)
 
 module _ {m : ℕ} {l : List Focal} (p : Fits m l) (h : m ≤ mostComponents) where
-  -- speeds fit 15 bits, so that the speeds of a join fit 16
+  -- Speeds fit 15 bits, so that the speeds of a join fit 16.
   pub fits-speeds : Every (λ f. (f .low < 32768) × (f .high < 32768)) l
   fits-speeds = every-map (λ f r. (omega (arith, r .low-high, r .below), omega (arith, r .below))) (p .speeds)
 
   pub fits-weights : weights l < 2 ^ 64
   fits-weights = omega (arith, thousands (weights l) 1 m 0 (p .sum) (le-of-eq (sym (pow-zero mostTotal))) (omega arith))
 
--- components of an accepted sheet
-module _ {cs : List Component} (range : AllInRange cs) (balanced : Balanced cs) (totals : Every (λ c. c .total ≤ mostTotal) cs) where
-  fits-masses : (i : ℕ) → Fits 1 (masses (getD cs i noComponent))
-  fits-masses i =
-      let e : weights (masses (getD cs i noComponent)) ≡ (getD cs i noComponent) .total = every-getD (λ c. weights (masses c) ≡ c .total) noComponent refl balanced i in
-      record {
-        speeds = every-getD (λ c. Every InRange (masses c)) noComponent Every.none range i;
-        sum = omega (arith, every-getD (λ c. c .total ≤ mostTotal) noComponent (omega arith) totals i);
-      }
+module _ (c : Component) (range : Every InRange (masses c)) (small : weights (masses c) ≤ mostTotal) where
+  fits-masses : Fits 1 (masses c)
+  fits-masses = record { speeds = range; sum = omega arith }
 
-  pub fits-leaf : (i : ℕ) → Fits 1 (collect (masses (getD cs i noComponent)))
-  fits-leaf i = fits-collect (fits-masses i)
+  pub fits-leaf : Fits 1 (collect (masses c))
+  fits-leaf = fits-collect fits-masses
+
+-- These are components of an accepted sheet.
+module _ {cs : List Component} (range : AllInRange cs) (balanced : Balanced cs) (totals : Every (λ c. c .total ≤ mostTotal) cs) where
+  fits-at : (c : Component) → Every InRange (masses c) → weights (masses c) ≡ c .total → c .total ≤ mostTotal → Fits 1 (masses c)
+  fits-at c r e h = fits-masses c r (omega arith)
 
   fits-tree : (t : Tree) → Fits (length (leaves t)) (outcomesOf cs t)
-  fits-tree (leaf i) = fits-masses i
+  fits-tree (leaf i) =
+      fits-at (getD cs i noComponent) (every-getD (λ c. Every InRange (masses c)) noComponent Every.none range i)
+      (every-getD (λ c. weights (masses c) ≡ c .total) noComponent refl balanced i) (every-getD (λ c. c .total ≤ mostTotal) noComponent (omega arith) totals i)
   fits-tree (node op l r) = rw (length-append (leaves l) (leaves r)) (fits-pairs op (fits-tree l) (fits-tree r))
 
-  -- the drive's list of a structure that names each component once
+  -- The drive's list fits where the structure names each component once.
   pub fits-drive : AllPositive cs → (es : List Entry) → length es + 1 ≡ 2 * length cs → NamedOnce (length cs) es → joinsFindTwo es 0 ≡ true
       → Fits (length cs) (driveList es cs)
   fits-drive positive es l names two =

@@ -6,7 +6,6 @@ use borrow.Author.Needs.{needs}
 use Rattle.theory.proofs.join_speeds.Statement.{statement}
 use Rattle.theory.proofs.join_speeds.Tie as tie
 
--- what each of the five ends answers
 pub join-speeds-spec : {M : Type 1} → statement M
 join-speeds-spec =
     tie.close
