@@ -1,20 +1,23 @@
--- Laws of a block that is read: what it means that it is whole and zeroed, its two cases, and that its fields fit. Assumes nothing.
+-- Laws of a block that is read: what its two tests say, its two cases, its component's places, and that its fields fit. Assumes nothing.
 use mathlib.Core.Path.{_≡_, refl, sym, ap, _∙_}
-use mathlib.Core.Bool.{Bool, true, false, _&&_, and-eq-true-iff}
+use mathlib.Core.Bool.{Bool, true, false, _||_, true≢false}
 use mathlib.Core.List.{List}
 use Prim.Native.Nat.{ℕ, _+_, _^_, _≤_, _<_}
 use native.Mathlib.Nat.{lt-of-lt-of-le}
 use native.Mathlib.Omega.{arith}
-use borrow.Author.Tests.{le-leb, leb-true, eqb-true}
-use lib.Dec.{leb, eqb}
+use borrow.Author.Tests.{le-ltb, ltb-false}
+use lib.Dec.{ltb}
 use lib.ListN.{length}
 use lib.Pow.{pow-mono}
 use Rattle.field.specs.Bits.{fieldAt}
 use Rattle.field.proofs.Field.{field-lt}
-use Rattle.reader.specs.Three.{threeAt}
+use Rattle.reader.specs.Fields.{threeAt}
 use Rattle.reader.specs.declared.Triple.{Triple}
-use Rattle.block.specs.Block.{placeOf, sizeOf, paddingOf, countIn, whole, zeroed, componentIn, noBlock, blockIn}
+use Rattle.theory.specs.Limits.{mostHeld}
+use Rattle.theory.specs.Focal.{Focal, focalAt}
+use Rattle.block.specs.Block.{countBits, zeroBits, placeOf, sizeOf, paddingOf, countIn, cutShort, badZeroBits, filledWith, componentIn, noBlock, blockIn}
 use Rattle.block.specs.declared.Block.{Block}
+use Rattle.block.proofs.Rows.{row-ext, row-used}
 
 -- three fields of at most 16 bits fit 16 bits
 pub narrow : (s : List ℕ) (p a b c : ℕ) (t : Triple) → a ≤ 16 → b ≤ 16 → c ≤ 16 → t ≡ threeAt s p a b c
@@ -23,56 +26,83 @@ narrow s p a b c t i j k e =
     let fits : (q w : ℕ) → w ≤ 16 → fieldAt s q w < 2 ^ 16 = λ q w l. lt-of-lt-of-le (field-lt s q w) (pow-mono l) in
     rw e (fits p a i, fits (p + a) b j, fits (p + a + b) c k)
 
--- a whole block: k is 1 to 8, and its bytes are there
-pub whole-is : (s : List ℕ) → whole s ≡ true → (1 ≤ countIn s) × (countIn s ≤ 8) × (sizeOf (countIn s) ≤ length s)
-unfolding whole
-whole-is s e =
-    let a = and-eq-true-iff (leb 1 (countIn s) && leb (countIn s) 8) (leb (sizeOf (countIn s)) (length s)) .0 e in
-    let b = and-eq-true-iff (leb 1 (countIn s)) (leb (countIn s) 8) .0 (a .0) in
-    (leb-true 1 (countIn s) (b .0), leb-true (countIn s) 8 (b .1), leb-true (sizeOf (countIn s)) (length s) (a .1))
+pub neither : (a b : Bool) → (a || b) ≡ false → (a ≡ false) × (b ≡ false)
+neither true b e = absurd (true≢false e)
+neither false b e = (refl, e)
 
-pub is-whole : (s : List ℕ) → 1 ≤ countIn s → countIn s ≤ 8 → sizeOf (countIn s) ≤ length s → whole s ≡ true
-unfolding whole
-is-whole s h g l = simp (le-leb 1 (countIn s) h, le-leb (countIn s) 8 g, le-leb (sizeOf (countIn s)) (length s) l)
+-- a block that is not cut short: k is 1 to 8, and its bytes are there
+pub record Uncut (s : List ℕ) : Type 0 where
+  pub least : 1 ≤ countIn s
+  pub most : countIn s ≤ mostHeld
+  pub there : sizeOf (countIn s) ≤ length s
 
-pub not-whole : (s : List ℕ) → ((1 ≤ countIn s) × (countIn s ≤ 8) × (sizeOf (countIn s) ≤ length s) → ⊥) → whole s ≡ false
-not-whole s h = go (whole s) refl
+pub uncut : (s : List ℕ) → cutShort s ≡ false → Uncut s
+unfolding cutShort
+uncut s e =
+    let a = neither (ltb (countIn s) 1 || ltb mostHeld (countIn s)) (ltb (length s) (sizeOf (countIn s))) e in
+    let b = neither (ltb (countIn s) 1) (ltb mostHeld (countIn s)) (a .0) in
+    record { least = ltb-false (countIn s) 1 (b .0); most = ltb-false mostHeld (countIn s) (b .1); there = ltb-false (length s) (sizeOf (countIn s)) (a .1) }
+
+pub is-uncut : (s : List ℕ) → Uncut s → cutShort s ≡ false
+unfolding cutShort
+is-uncut s u = simp (le-ltb (countIn s) 1 (u .least), le-ltb mostHeld (countIn s) (u .most), le-ltb (length s) (sizeOf (countIn s)) (u .there))
+
+pub is-cut : (s : List ℕ) → (Uncut s → ⊥) → cutShort s ≡ true
+is-cut s h = go (cutShort s) refl
   where
-    go : (b : Bool) → whole s ≡ b → whole s ≡ false
-    go true e = absurd (h (whole-is s e))
-    go false e = e
+    go : (b : Bool) → cutShort s ≡ b → cutShort s ≡ true
+    go true e = e
+    go false e = absurd (h (uncut s e))
 
--- a zeroed block: the two bits behind k and the padding are zero
-pub zeroed-is : (s : List ℕ) → zeroed s ≡ true → (fieldAt s 4 2 ≡ 0) × (fieldAt s (placeOf (countIn s)) (paddingOf (countIn s)) ≡ 0)
-unfolding zeroed
-zeroed-is s e =
-    let a = and-eq-true-iff (eqb (fieldAt s 4 2) 0) (eqb (fieldAt s (placeOf (countIn s)) (paddingOf (countIn s))) 0) .0 e in
-    (eqb-true (fieldAt s 4 2) 0 (a .0), eqb-true (fieldAt s (placeOf (countIn s)) (paddingOf (countIn s))) 0 (a .1))
+-- where no bit named zero is one, the two bits behind k and the padding are zero
+pub zero-bits : (s : List ℕ) → badZeroBits s ≡ false → (fieldAt s countBits zeroBits ≡ 0) × (fieldAt s (placeOf (countIn s)) (paddingOf (countIn s)) ≡ 0)
+unfolding badZeroBits
+zero-bits s e =
+    let a = neither (ltb 0 (fieldAt s countBits zeroBits)) (ltb 0 (fieldAt s (placeOf (countIn s)) (paddingOf (countIn s)))) e in
+    (omega (arith, ltb-false), omega (arith, ltb-false))
 
-pub is-zeroed : (s : List ℕ) → fieldAt s 4 2 ≡ 0 → fieldAt s (placeOf (countIn s)) (paddingOf (countIn s)) ≡ 0 → zeroed s ≡ true
-unfolding zeroed
-is-zeroed s a b = simp (a, b)
+pub no-bad-bits : (s : List ℕ) → fieldAt s countBits zeroBits ≡ 0 → fieldAt s (placeOf (countIn s)) (paddingOf (countIn s)) ≡ 0 → badZeroBits s ≡ false
+unfolding badZeroBits
+no-bad-bits s a b = simp (a, b)
 
 -- the two cases of a block that is read
-pub block-whole : (s : List ℕ) → whole s ≡ true → blockIn s ≡ record { whole = true; zeroed = zeroed s; size = sizeOf (countIn s); component = componentIn s }
+pub block-uncut : (s : List ℕ) → cutShort s ≡ false
+    → blockIn s ≡ record { cut = false; nonzero = badZeroBits s; size = sizeOf (countIn s); component = componentIn s }
 unfolding blockIn
-block-whole s e = rw e
+block-uncut s e = rw e
 
-pub block-none : (s : List ℕ) → whole s ≡ false → blockIn s ≡ noBlock
+pub block-cut : (s : List ℕ) → cutShort s ≡ true → blockIn s ≡ noBlock
 unfolding blockIn
-block-none s e = rw e
+block-cut s e = rw e
 
--- what is said of wholeness is so, and a block that is read lies within what is there
-pub block-says : (s : List ℕ) → (blockIn s) .whole ≡ whole s
-block-says s = go (whole s) refl
+-- what is said of the cut is so, and a block that is read lies within what is there
+pub block-says : (s : List ℕ) → (blockIn s) .cut ≡ cutShort s
+block-says s = go (cutShort s) refl
   where
-    go : (b : Bool) → whole s ≡ b → (blockIn s) .whole ≡ whole s
-    go true e = ap (λ (b : Block). b .whole) (block-whole s e) ∙ sym e
-    go false e = ap (λ (b : Block). b .whole) (block-none s e) ∙ sym e
+    go : (b : Bool) → cutShort s ≡ b → (blockIn s) .cut ≡ cutShort s
+    go true e = ap (λ (b : Block). b .cut) (block-cut s e) ∙ sym e
+    go false e = ap (λ (b : Block). b .cut) (block-uncut s e) ∙ sym e
 
 pub size-fits : (s : List ℕ) → (blockIn s) .size ≤ length s
-size-fits s = go (whole s) refl
+size-fits s = go (cutShort s) refl
   where
-    go : (b : Bool) → whole s ≡ b → (blockIn s) .size ≤ length s
-    go true e = rw (block-whole s e) (whole-is s e .2)
-    go false e = rw (block-none s e) (omega arith)
+    go : (b : Bool) → cutShort s ≡ b → (blockIn s) .size ≤ length s
+    go true e = rw (block-cut s e) (omega arith)
+    go false e = rw (block-uncut s e) (uncut s e .there)
+
+-- a component that is filled: it depends on the used places alone, and each holds its interval
+pub filled-ext : (f g : ℕ → Focal) (k n t : ℕ) → ((i : ℕ) → i < k → f i ≡ g i) → filledWith f k n t ≡ filledWith g k n t
+filled-ext f g k n t h =
+    rw (
+      row-ext 0 mostHeld (λ i. (f i) .low) (λ i. (g i) .low) k (λ i p. ap (λ (x : Focal). x .low) (h i p)),
+      row-ext 0 mostHeld (λ i. (f i) .high) (λ i. (g i) .high) k (λ i p. ap (λ (x : Focal). x .high) (h i p)),
+      row-ext 0 mostHeld (λ i. (f i) .weight) (λ i. (g i) .weight) k (λ i p. ap (λ (x : Focal). x .weight) (h i p)),
+    )
+
+pub filled-used : (f : ℕ → Focal) (k n t i : ℕ) → i < k → k ≤ mostHeld → focalAt (filledWith f k n t) i ≡ f i
+filled-used f k n t i h l =
+    rw (
+      row-used 0 mostHeld 0 (λ j. (f j) .low) k i h l,
+      row-used 0 mostHeld 0 (λ j. (f j) .high) k i h l,
+      row-used 0 mostHeld 0 (λ j. (f j) .weight) k i h l,
+    )

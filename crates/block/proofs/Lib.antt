@@ -1,3 +1,3 @@
 pub mod Rows
 pub mod Laws
-pub mod Round
+pub mod RoundTrip

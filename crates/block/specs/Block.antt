@@ -1,21 +1,44 @@
 -- "The sheet": a component's block, as it stands at the front of a list of bytes, and as it is written. Assumes nothing.
 use Prim.Native.Nat.{ℕ, zero, suc, _+_, _-_, _*_, _/_}
-use mathlib.Core.Bool.{Bool, true, false, cond, _&&_}
+use mathlib.Core.Bool.{Bool, true, false, cond, _||_}
 use mathlib.Core.List.{List, [], _∷_, _++_}
-use lib.Dec.{leb, eqb}
-use lib.ListN.{length, getD, replicate}
+use lib.Dec.{ltb}
+use lib.ListN.{length, replicate}
 use Rattle.field.specs.Bits.{fieldAt}
 use Rattle.field.specs.Fields.{Field, bits}
-use Rattle.reader.specs.Three.{threeAt}
-use Rattle.reader.specs.declared.Triple.{Triple}
 use Rattle.theory.specs.Limits.{mostHeld}
+use Rattle.theory.specs.Focal.{Focal, focalAt}
 use Rattle.theory.specs.declared.Component.{Component}
 use Rattle.block.specs.Rows.{row}
 use Rattle.block.specs.declared.Block.{Block}
 
+-- The fields of a block: interval count k 4 bits, 2 zero bits, T 10 bits,
+abbrev pub countBits : ℕ
+countBits = 4
+
+abbrev pub zeroBits : ℕ
+zeroBits = 2
+
+abbrev pub totalBits : ℕ
+totalBits = 10
+
+-- then k times: low 12, high 12, weight 10 bits.
+abbrev pub speedBits : ℕ
+speedBits = 12
+
+abbrev pub weightBits : ℕ
+weightBits = 10
+
+-- the bits before the intervals, and those of each interval
+abbrev pub headBits : ℕ
+headBits = countBits + zeroBits + totalBits
+
+abbrev pub intervalBits : ℕ
+intervalBits = speedBits + speedBits + weightBits
+
 -- the bit at which interval i of a block starts; behind the last one the padding starts
 abbrev pub placeOf : ℕ → ℕ
-placeOf i = 16 + 34 * i
+placeOf i = headBits + intervalBits * i
 
 -- the bytes of a block of k intervals
 abbrev pub sizeOf : ℕ → ℕ
@@ -25,54 +48,66 @@ sizeOf k = (placeOf k + 7) / 8
 abbrev pub paddingOf : ℕ → ℕ
 paddingOf k = 8 * sizeOf k - placeOf k
 
--- The fields of the block at the front of s: interval count k 4 bits, 2 zero bits, T 10 bits,
+-- What stands in the block at the front of s: k, T and interval i.
 abbrev pub countIn : List ℕ → ℕ
-countIn s = fieldAt s 0 4
+countIn s = fieldAt s 0 countBits
 
 abbrev pub totalIn : List ℕ → ℕ
-totalIn s = fieldAt s 6 10
+totalIn s = fieldAt s (countBits + zeroBits) totalBits
 
--- then k times: low 12, high 12, weight 10 bits.
-abbrev pub intervalIn : List ℕ → ℕ → Triple
-intervalIn s i = threeAt s (placeOf i) 12 12 10
-
--- what number 4 asks of a block: k is 1 to 8, and it is not cut short
-unfoldable pub whole : List ℕ → Bool
-whole s = leb 1 (countIn s) && leb (countIn s) mostHeld && leb (sizeOf (countIn s)) (length s)
-
--- what number 5 asks of a block: its bits named zero are zero
-unfoldable pub zeroed : List ℕ → Bool
-zeroed s = eqb (fieldAt s 4 2) 0 && eqb (fieldAt s (placeOf (countIn s)) (paddingOf (countIn s))) 0
-
--- a component of k intervals and the total t; the unused places are zero
-unfoldable pub componentOf : List ℕ → ℕ → ℕ → Component
-componentOf s k t =
+abbrev pub intervalIn : List ℕ → ℕ → Focal
+intervalIn s i =
     record {
-      lows = row 0 mostHeld (λ i. (intervalIn s i) .first) k;
-      highs = row 0 mostHeld (λ i. (intervalIn s i) .second) k;
-      weights = row 0 mostHeld (λ i. (intervalIn s i) .third) k;
-      count = k;
+      low = fieldAt s (placeOf i) speedBits;
+      high = fieldAt s (placeOf i + speedBits) speedBits;
+      weight = fieldAt s (placeOf i + speedBits + speedBits) weightBits;
+    }
+
+-- number 4 of a block: its k is not 1 to 8, or it is cut short
+unfoldable pub cutShort : List ℕ → Bool
+cutShort s = ltb (countIn s) 1 || ltb mostHeld (countIn s) || ltb (length s) (sizeOf (countIn s))
+
+-- number 5 of a block: a bit named zero is one
+unfoldable pub badZeroBits : List ℕ → Bool
+badZeroBits s = ltb 0 (fieldAt s countBits zeroBits) || ltb 0 (fieldAt s (placeOf (countIn s)) (paddingOf (countIn s)))
+
+-- A component whose first k places are filled with intervals; the unused places are zero.
+abbrev pub filledWith : (ℕ → Focal) → ℕ → ℕ → ℕ → Component
+filledWith f k n t =
+    record {
+      lows = row 0 mostHeld (λ i. (f i) .low) k;
+      highs = row 0 mostHeld (λ i. (f i) .high) k;
+      weights = row 0 mostHeld (λ i. (f i) .weight) k;
+      count = n;
       total = t;
     }
 
+-- the component of k intervals and the total t that is read at the front of s
+unfoldable pub componentOf : List ℕ → ℕ → ℕ → Component
+componentOf s k t = filledWith (intervalIn s) k k t
+
 abbrev pub componentIn : List ℕ → Component
 componentIn s = componentOf s (countIn s) (totalIn s)
+
+-- the component with its unused places zero
+unfoldable pub cleaned : Component → Component
+cleaned c = filledWith (focalAt c) (c .count) (c .count) (c .total)
 
 -- the component of zeros
 abbrev pub zeroComponent : Component
 zeroComponent = record { lows = replicate mostHeld 0; highs = replicate mostHeld 0; weights = replicate mostHeld 0; count = 0; total = 0 }
 
--- what is read where no whole block is
+-- what is read where a block is cut short
 abbrev pub noBlock : Block
-noBlock = record { whole = false; zeroed = false; size = 0; component = zeroComponent }
+noBlock = record { cut = true; nonzero = false; size = 0; component = zeroComponent }
 
 -- what is read at the front of s
 unfoldable pub blockIn : List ℕ → Block
-blockIn s = cond (whole s) (record { whole = true; zeroed = zeroed s; size = sizeOf (countIn s); component = componentIn s }) noBlock
+blockIn s = cond (cutShort s) noBlock (record { cut = false; nonzero = badZeroBits s; size = sizeOf (countIn s); component = componentIn s })
 
--- interval i of a component as fields, the first n intervals, and the whole block
+-- A block as it is written: an interval's fields, those of the first n intervals, and all.
 abbrev pub intervalOf : Component → ℕ → List Field
-intervalOf c i = bits 12 (getD (c .lows) i 0) ∷ bits 12 (getD (c .highs) i 0) ∷ bits 10 (getD (c .weights) i 0) ∷ []
+intervalOf c i = bits speedBits (focalAt c i .low) ∷ bits speedBits (focalAt c i .high) ∷ bits weightBits (focalAt c i .weight) ∷ []
 
 unfoldable pub intervalsOf : Component → ℕ → List Field
 intervalsOf c zero = []
@@ -80,15 +115,7 @@ intervalsOf c (suc n) = intervalsOf c n ++ intervalOf c n
 
 unfoldable pub fieldsOf : Component → List Field
 fieldsOf c =
-    bits 4 (c .count) ∷ bits 2 0 ∷ bits 10 (c .total) ∷ (intervalsOf c (c .count) ++ (bits (paddingOf (c .count)) 0 ∷ []))
-
--- the component with its unused places zero
-unfoldable pub cleaned : Component → Component
-cleaned c =
-    record {
-      lows = row 0 mostHeld (λ i. getD (c .lows) i 0) (c .count);
-      highs = row 0 mostHeld (λ i. getD (c .highs) i 0) (c .count);
-      weights = row 0 mostHeld (λ i. getD (c .weights) i 0) (c .count);
-      count = c .count;
-      total = c .total;
-    }
+    bits countBits (c .count)
+    ∷ bits zeroBits 0
+    ∷ bits totalBits (c .total)
+    ∷ (intervalsOf c (c .count) ++ (bits (paddingOf (c .count)) 0 ∷ []))

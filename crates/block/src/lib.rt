@@ -1,20 +1,55 @@
 // The block of one component, read and written.
 ghost use mathlib.Core.Path.{_≡_};
-ghost use mathlib.Core.Bool.{_&&_};
+ghost use mathlib.Core.Bool.{_||_};
 ghost use Prim.Native.Nat.{_≤_, _*_};
-ghost use lib.Dec.{eqb};
+ghost use lib.Dec.{ltb};
 ghost use lib.ListN.{length};
 ghost use Rattle.field.specs.Fields.{putAll};
+ghost use Rattle.theory.specs.Limits.{mostHeld};
 ghost use Rattle.block.specs.Block.{placeOf, sizeOf, componentOf, zeroComponent, noBlock, blockIn, intervalsOf, fieldsOf};
 use theory::Component;
+use theory::MOST_HELD;
 
-// What stands at the front of a part of a sheet: whether a whole block does (number 4), whether its bits named zero
-// are zero (number 5), its bytes, and its component.
+// The widths of a block's fields: specs/Block.antt has them with document 01's words.
+const COUNT_BITS: usize = 4;
+
+const ZERO_BITS: usize = 2;
+
+const TOTAL_BITS: usize = 10;
+
+const SPEED_BITS: usize = 12;
+
+const WEIGHT_BITS: usize = 10;
+
+const HEAD_BITS: usize = COUNT_BITS + ZERO_BITS + TOTAL_BITS;
+
+const HEAD_BYTES: usize = HEAD_BITS / 8;
+
+const INTERVAL_BITS: usize = SPEED_BITS + SPEED_BITS + WEIGHT_BITS;
+
+// What stands at the front of a part of a sheet: whether the block is cut short (number 4), whether a bit of it that is named
+// zero is one (number 5), its bytes, and its component.
 pub struct Block {
-    pub whole: bool,
-    pub zeroed: bool,
+    pub cut: bool,
+    pub nonzero: bool,
     pub size: usize,
     pub component: Component,
+}
+
+// The bit at which interval i of a block starts.
+fn interval_place(i: usize) -> usize
+    requires { ⌜ i ≤ mostHeld ⌝ }
+    ensures { λ r. ⌜ r ≡ placeOf i ⌝ }
+{
+    HEAD_BITS + INTERVAL_BITS * i
+}
+
+// The bytes of a block of k intervals.
+pub fn block_size(k: usize) -> usize
+    requires { ⌜ k ≤ mostHeld ⌝ }
+    ensures { λ r. ⌜ r ≡ sizeOf k ⌝ }
+{
+    (interval_place(k) + 7) / 8
 }
 
 // The component of zeros.
@@ -22,9 +57,9 @@ pub fn zero_component() -> Component
     ensures { λ r. ⌜ r ≡ zeroComponent ⌝ }
 {
     Component {
-        lows: [0; 8],
-        highs: [0; 8],
-        weights: [0; 8],
+        lows: [0; MOST_HELD],
+        highs: [0; MOST_HELD],
+        weights: [0; MOST_HELD],
         count: 0,
         total: 0,
     }
@@ -35,8 +70,8 @@ fn no_block() -> Block
 {
     let c = zero_component();
     Block {
-        whole: false,
-        zeroed: false,
+        cut: true,
+        nonzero: false,
         size: 0,
         component: c,
     }
@@ -44,12 +79,12 @@ fn no_block() -> Block
 
 // The component of k intervals in the block at the front of part; T is total.
 fn read_component(part: &[u8], k: usize, total: u16) -> Component
-    requires { ⌜ (k ≤ 8) × (sizeOf k ≤ length (now part)) ⌝ }
+    requires { ⌜ (k ≤ mostHeld) × (sizeOf k ≤ length (now part)) ⌝ }
     ensures { λ r. ⌜ r ≡ componentOf (now (part .entry)) k total ⌝ }
 {
     let mut c = zero_component();
     for i in 0..k {
-        let t = reader::three(part, 16 + 34 * i, 12, 12, 10);
+        let t = reader::three(part, interval_place(i), SPEED_BITS, SPEED_BITS, WEIGHT_BITS);
         c.lows[i] = t.first as u16;
         c.highs[i] = t.second as u16;
         c.weights[i] = t.third as u16;
@@ -59,37 +94,37 @@ fn read_component(part: &[u8], k: usize, total: u16) -> Component
     c
 }
 
-fn both_zero(a: u32, b: u32) -> bool
-    ensures { λ r. ⌜ r ≡ (eqb a 0 && eqb b 0) ⌝ }
+fn either_nonzero(a: u32, b: u32) -> bool
+    ensures { λ r. ⌜ r ≡ (ltb 0 a || ltb 0 b) ⌝ }
 {
-    if a == 0 { b == 0 } else { false }
+    if 0 < a { true } else { 0 < b }
 }
 
 // The block at the front of part, which is the rest of a sheet from the block's first byte on.
 pub fn read_block(part: &[u8]) -> Block
     ensures { λ r. ⌜ r ≡ blockIn (now (part .entry)) ⌝ }
 {
-    if part.len() < 2 {
+    if part.len() < HEAD_BYTES {
         return no_block();
     }
-    let head = reader::three(part, 0, 4, 2, 10);
+    let head = reader::three(part, 0, COUNT_BITS, ZERO_BITS, TOTAL_BITS);
     let k = head.first as usize;
     if k < 1 {
         return no_block();
     }
-    if 8 < k {
+    if MOST_HELD < k {
         return no_block();
     }
-    let end = 16 + 34 * k;
-    let size = (end + 7) / 8;
+    let size = block_size(k);
     if part.len() < size {
         return no_block();
     }
-    let padding = reader::three(part, end, 8 * size - end, 0, 0);
+    let end = interval_place(k);
+    let padding = reader::one(part, end, 8 * size - end);
     let c = read_component(part, k, head.third as u16);
     Block {
-        whole: true,
-        zeroed: both_zero(head.second, padding.first),
+        cut: false,
+        nonzero: either_nonzero(head.second, padding),
         size: size,
         component: c,
     }
@@ -97,19 +132,19 @@ pub fn read_block(part: &[u8]) -> Block
 
 // The intervals of c, in a block at the front of dst.
 fn put_intervals(dst: &mut [u8], c: Component)
-    requires { ⌜ (c .count ≤ 8) × (placeOf (c .count) ≤ 8 * length (now dst)) ⌝ }
+    requires { ⌜ (c .count ≤ mostHeld) × (placeOf (c .count) ≤ 8 * length (now dst)) ⌝ }
     ensures { λ _. ⌜ now (dst .exit) ≡ putAll (now (dst .entry)) (placeOf 0) (intervalsOf c (c .count)) ⌝ }
 {
     let k = c.count;
     for i in 0..k {
         field::put_three(
             dst,
-            16 + 34 * i,
-            12,
+            interval_place(i),
+            SPEED_BITS,
             c.lows[i] as u32,
-            12,
+            SPEED_BITS,
             c.highs[i] as u32,
-            10,
+            WEIGHT_BITS,
             c.weights[i] as u32,
         );
     }
@@ -117,13 +152,21 @@ fn put_intervals(dst: &mut [u8], c: Component)
 
 // The block of c, at the front of dst.
 pub fn write_block(dst: &mut [u8], c: Component)
-    requires { ⌜ (c .count ≤ 8) × (sizeOf (c .count) ≤ length (now dst)) ⌝ }
+    requires { ⌜ (c .count ≤ mostHeld) × (sizeOf (c .count) ≤ length (now dst)) ⌝ }
     ensures { λ _. ⌜ now (dst .exit) ≡ putAll (now (dst .entry)) 0 (fieldsOf c) ⌝ }
 {
     let k = c.count;
-    let end = 16 + 34 * k;
-    let size = (end + 7) / 8;
-    field::put_three(dst, 0, 4, k as u32, 2, 0, 10, c.total as u32);
+    let end = interval_place(k);
+    field::put_three(
+        dst,
+        0,
+        COUNT_BITS,
+        k as u32,
+        ZERO_BITS,
+        0,
+        TOTAL_BITS,
+        c.total as u32,
+    );
     put_intervals(dst, c);
-    field::put_field(dst, end, 8 * size - end, 0);
+    field::put_field(dst, end, 8 * block_size(k) - end, 0);
 }

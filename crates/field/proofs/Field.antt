@@ -1,12 +1,15 @@
 -- Laws of fields, for any width. Assumes nothing.
-use mathlib.Core.Path.{_≡_, sym, ap, _∙_}
+use mathlib.Core.Path.{_≡_, refl, sym, ap, _∙_}
 use mathlib.Core.List.{List}
 use Prim.Native.Nat.{ℕ, zero, suc, _+_, _-_, _*_, _/_, _%_, _^_, _≤_, _<_}
 use native.Mathlib.Nat.{add-zero, add-suc, mul-assoc, pow-suc, mod-lt, add-assoc, div-eq-of-lt, div-one}
 use native.Mathlib.Omega.{arith}
-use lib.ListN.{getD}
+use native.Mathlib.Numerals.{add-one}
+use lib.ListN.{length, getD}
 use lib.Dec.{lit<, lit≤}
 use lib.Pow.{high, low, shr-shr}
+use Rattle.numbers.specs.Numbers.{Bytes, onto, numberAt}
+use Rattle.numbers.proofs.Numbers.{number-next}
 use Rattle.field.specs.Bits.{bit, fieldAt}
 
 pub bit-lt : (s : List ℕ) (j : ℕ) → bit s j < 2
@@ -62,6 +65,12 @@ field-more s m n h =
     let e : 8 * (n + 1) ≡ 8 * n + 8 = omega arith in
     let f : 8 * m + 8 * n ≡ 8 * (m + n) = omega arith in
     rw (e, field-split s (8 * m) (8 * n) 8, f, field-byte s (m + n) h)
+
+-- the number that n bytes spell is the field of their bits
+pub number-field : (s : List ℕ) (a n : ℕ) → Bytes s → a + n ≤ length s → numberAt s a n ≡ fieldAt s (8 * a) (8 * n)
+unfolding onto fieldAt
+number-field s a zero b h = refl
+number-field s a (suc n) b h = rw (← add-one n) (number-next s a n (omega arith) ∙ rw (number-field s a n b (omega arith)) (sym (field-more s a n (b (a + n)))))
 
 -- the field of w bits at bit a, out of the bytes that it stands in
 pub field-out : (s : List ℕ) (a w : ℕ) → fieldAt s (8 * (a / 8)) (8 * ((a + w + 7) / 8 - a / 8)) / 2 ^ ((a + w + 7) / 8 * 8 - (a + w)) % 2 ^ w ≡ fieldAt s a w

@@ -50,7 +50,8 @@ length-putAll s a [] = refl
 length-putAll s a (f ∷ fs) = length-putAll (putAt s a (f .width) (f .value)) (a + f .width) fs ∙ length-putAt s a (f .width) (f .value)
 
 -- bits before and behind stay
-pub putAll-other : (s : List ℕ) (a : ℕ) (fs : List Field) (j : ℕ) → a + widthOf fs ≤ 8 * length s → (a ≤ j → j < a + widthOf fs → ⊥) → bit (putAll s a fs) j ≡ bit s j
+pub putAll-other : (s : List ℕ) (a : ℕ) (fs : List Field) (j : ℕ) → a + widthOf fs ≤ 8 * length s → (a ≤ j → j < a + widthOf fs → ⊥)
+    → bit (putAll s a fs) j ≡ bit s j
 unfolding putAll widthOf
 putAll-other s a [] j h out = refl
 putAll-other s a (f ∷ fs) j h out =
@@ -144,4 +145,5 @@ putAt-rest s a (suc w) v n h = setBit-rest (putAt s a w (v / 2)) (a + w) (v % 2)
 pub putAll-rest : (s : List ℕ) (a : ℕ) (fs : List Field) (n : ℕ) → a + widthOf fs ≤ 8 * n → drop n (putAll s a fs) ≡ drop n s
 unfolding putAll widthOf
 putAll-rest s a [] n h = refl
-putAll-rest s a (f ∷ fs) n h = putAll-rest (putAt s a (f .width) (f .value)) (a + f .width) fs n (omega arith) ∙ putAt-rest s a (f .width) (f .value) n (omega arith)
+putAll-rest s a (f ∷ fs) n h =
+    putAll-rest (putAt s a (f .width) (f .value)) (a + f .width) fs n (omega arith) ∙ putAt-rest s a (f .width) (f .value) n (omega arith)

@@ -34,12 +34,16 @@ putAt-take s m a (suc w) v = rw (add-assoc (8 * m) a w) (setBit-take (putAt s (8
 putAll-drop : (s : List ℕ) (m a : ℕ) (fs : List Field) → putAll (drop m s) a fs ≡ drop m (putAll s (8 * m + a) fs)
 unfolding putAll
 putAll-drop s m a [] = refl
-putAll-drop s m a (f ∷ fs) = rw (putAt-drop s m a (f .width) (f .value), add-assoc (8 * m) a (f .width)) (putAll-drop (putAt s (8 * m + a) (f .width) (f .value)) m (a + f .width) fs)
+putAll-drop s m a (f ∷ fs) =
+    rw (putAt-drop s m a (f .width) (f .value), add-assoc (8 * m) a (f .width))
+    (putAll-drop (putAt s (8 * m + a) (f .width) (f .value)) m (a + f .width) fs)
 
 putAll-take : (s : List ℕ) (m a : ℕ) (fs : List Field) → take m (putAll s (8 * m + a) fs) ≡ take m s
 unfolding putAll
 putAll-take s m a [] = refl
-putAll-take s m a (f ∷ fs) = rw (add-assoc (8 * m) a (f .width)) (putAll-take (putAt s (8 * m + a) (f .width) (f .value)) m (a + f .width) fs ∙ putAt-take s m a (f .width) (f .value))
+putAll-take s m a (f ∷ fs) =
+    rw (add-assoc (8 * m) a (f .width))
+    (putAll-take (putAt s (8 * m + a) (f .width) (f .value)) m (a + f .width) fs ∙ putAt-take s m a (f .width) (f .value))
 
 -- the list when the rest from byte m was lent and fields were put in there
 pub part-back : (s ys : List ℕ) (m : ℕ) (fs : List Field) → m ≤ length s → ys ≡ putAll (drop m s) 0 fs → putMid m (length s - m) s ys ≡ putAll s (8 * m) fs

@@ -1,7 +1,7 @@
 -- Laws of writing: one bit of a number, one bit of a list of bytes, a field of any width. Assumes nothing.
 use mathlib.Core.Path.{_≡_, refl, sym, ap, _∙_}
 use mathlib.Core.List.{List}
-use mathlib.Core.Logic.{_≢_, _⊎_, inl, inr}
+use mathlib.Core.Logic.{_≢_}
 use Prim.Native.Nat.{ℕ, zero, suc, _+_, _-_, _*_, _/_, _%_, _^_, _≤_, _<_}
 use native.Mathlib.Nat.{add-mul, div-add-mod', mod-lt, pow-suc, div-lt-iff-lt-mul}
 use native.Mathlib.Decide.{decLt, ℕ-discrete}
@@ -47,7 +47,9 @@ bit-above x k i h =
 pub put-other : (x k b i : ℕ) → b < 2 → i ≢ k → withBit x (2 ^ k) b / 2 ^ i % 2 ≡ x / 2 ^ i % 2
 put-other x k b i hb ne = elim (decLt i k) [
   | yes h ↦ bit-below (withBit x (2 ^ k) b) k i h ∙ ap (λ (n : ℕ). n % 2 ^ (1 + i) / 2 ^ i) (put-low x k b hb) ∙ sym (bit-below x k i h)
-  | no h ↦ ap (λ (n : ℕ). n % 2) (bit-above (withBit x (2 ^ k) b) k i (omega arith) ∙ ap (λ (n : ℕ). n / 2 ^ (i - (k + 1))) (put-above x k b hb) ∙ sym (bit-above x k i (omega arith)))
+  | no h ↦
+      ap (λ (n : ℕ). n % 2) (bit-above (withBit x (2 ^ k) b) k i (omega arith)
+      ∙ ap (λ (n : ℕ). n / 2 ^ (i - (k + 1))) (put-above x k b hb) ∙ sym (bit-above x k i (omega arith)))
 ]
 
 -- a byte stays a byte
@@ -132,15 +134,12 @@ putAt-same s a (suc w) v h hv =
     )
     (omega arith)
 
--- another field stays: one that ends before this one or starts behind it
-pub putAt-apart : (s : List ℕ) (a w v b u : ℕ) → a + w ≤ 8 * length s → (b + u ≤ a) ⊎ (a + w ≤ b) → fieldAt (putAt s a w v) b u ≡ fieldAt s b u
-putAt-apart s a w v b u h (inl d) = field-ext (putAt s a w v) s b u (λ j p q. putAt-other s a w v j h (λ x y. omega arith))
-putAt-apart s a w v b u h (inr d) = field-ext (putAt s a w v) s b u (λ j p q. putAt-other s a w v j h (λ x y. omega arith))
-
+-- bytes stay bytes
 pub putAt-bytes : (s : List ℕ) (a w v : ℕ) → a + w ≤ 8 * length s → Bytes s → Bytes (putAt s a w v)
 unfolding putAt
 putAt-bytes s a zero v h B = B
-putAt-bytes s a (suc w) v h B = setBit-bytes (putAt s a w (v / 2)) (a + w) (v % 2) (room s a w (v / 2) h) (omega arith) (putAt-bytes s a w (v / 2) (omega arith) B)
+putAt-bytes s a (suc w) v h B =
+    setBit-bytes (putAt s a w (v / 2)) (a + w) (v % 2) (room s a w (v / 2) h) (omega arith) (putAt-bytes s a w (v / 2) (omega arith) B)
 
 -- bytes are known by their bits
 pub bits-ext : (s t : List ℕ) → length s ≡ length t → Bytes s → Bytes t → ((j : ℕ) → j < 8 * length s → bit s j ≡ bit t j) → s ≡ t

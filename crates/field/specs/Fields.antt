@@ -1,8 +1,15 @@
--- Fields in a row: how they stand in bytes, and bytes with them put in. Assumes nothing.
+-- Fields: where one may stand, how some stand in bytes in a row, and bytes with them put in. Assumes nothing.
 use mathlib.Core.Path.{_≡_}
 use mathlib.Core.List.{List, [], _∷_}
-use Prim.Native.Nat.{ℕ, _+_, _^_, _<_}
+use Prim.Native.Nat.{ℕ, _+_, _*_, _^_, _≤_, _<_}
+use lib.ListN.{length}
 use Rattle.field.specs.Bits.{fieldAt, putAt}
+
+-- the w bits from bit a lie inside the bytes s, and make a number of 32 bits at most
+pub record Inside (s : List ℕ) (a w : ℕ) : Type 0 where
+  pub narrow : w ≤ 32
+  pub within : a + w ≤ 8 * length s
+  pub near : a + w ≤ 65536
 
 -- a field: a number and its width in bits
 pub record Field : Type 0 where

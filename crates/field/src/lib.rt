@@ -4,7 +4,7 @@ ghost use Prim.Native.Nat.{_+_, _-_, _*_, _^_, _≤_, _<_};
 ghost use mathlib.Core.List.{[], _∷_};
 ghost use lib.ListN.{length};
 ghost use Rattle.field.specs.Bits.{fieldAt, setBit, putAt};
-ghost use Rattle.field.specs.Fields.{bits, putAll};
+ghost use Rattle.field.specs.Fields.{Inside, bits, putAll};
 
 // Two to the k, for widths up to 32.
 fn pow2(k: usize) -> u64
@@ -14,35 +14,15 @@ fn pow2(k: usize) -> u64
     1u64 << k
 }
 
-fn wide(x: u8) -> u64
-    ensures { λ r. ⌜ r ≡ x ⌝ }
-{
-    x as u64
-}
-
-// The number that the bytes from first up to end spell, the most significant first: five bytes at most.
-fn gather(src: &[u8], first: usize, end: usize) -> u64
-    requires { ⌜ (first ≤ end) × (end ≤ length (now src)) × (end ≤ first + 5) ⌝ }
-    ensures { λ r. ⌜ r ≡ fieldAt (now (src .entry)) (8 * first) (8 * (end - first)) ⌝ }
-{
-    let mut acc: u64 = 0;
-    let mut i = first;
-    while i < end {
-        acc = acc * 256 + wide(src[i]);
-        i += 1;
-    }
-    acc
-}
-
 // The field of width bits at bit at, out of the bytes that hold it: at most five.
 pub fn field_at(src: &[u8], at: usize, width: usize) -> u32
-    requires { ⌜ (width ≤ 32) × (at + width ≤ 8 * length (now src)) × (at + width ≤ 65536) ⌝ }
+    requires { ⌜ Inside (now src) at width ⌝ }
     ensures { λ r. ⌜ r ≡ fieldAt (now (src .entry)) at width ⌝ }
 {
     let end = at + width;
     let first = at / 8;
     let last = (end + 7) / 8;
-    let acc = gather(src, first, last);
+    let acc = numbers::read_number(src, first, last - first);
     (acc / pow2(last * 8 - end) % pow2(width)) as u32
 }
 
@@ -53,13 +33,13 @@ fn put_bit(dst: &mut [u8], j: usize, b: u64)
 {
     let i = j / 8;
     let p = pow2(7 - j % 8);
-    let x = wide(dst[i]);
+    let x = numbers::wide(dst[i]);
     dst[i] = (x - x / p % 2 * p + b * p) as u8;
 }
 
 // Sets the width bits from bit at to the lowest width bits of value; every other bit stays.
 pub fn put_field(dst: &mut [u8], at: usize, width: usize, value: u32)
-    requires { ⌜ (width ≤ 32) × (at + width ≤ 8 * length (now dst)) × (at + width ≤ 65536) ⌝ }
+    requires { ⌜ Inside (now dst) at width ⌝ }
     ensures { λ _. ⌜ now (dst .exit) ≡ putAt (now (dst .entry)) at width value ⌝ }
 {
     let v = value as u64;
@@ -70,7 +50,7 @@ pub fn put_field(dst: &mut [u8], at: usize, width: usize, value: u32)
 
 // Puts x, y and z as three fields in a row from bit at, of a, b and c bits.
 pub fn put_three(dst: &mut [u8], at: usize, a: usize, x: u32, b: usize, y: u32, c: usize, z: u32)
-    requires { ⌜ (a ≤ 32) × (b ≤ 32) × (c ≤ 32) × (at + a + b + c ≤ 8 * length (now dst)) × (at + a + b + c ≤ 65536) ⌝ }
+    requires { ⌜ Inside (now dst) at a × Inside (now dst) (at + a) b × Inside (now dst) (at + a + b) c ⌝ }
     ensures { λ _. ⌜ now (dst .exit) ≡ putAll (now (dst .entry)) at (bits a x ∷ bits b y ∷ bits c z ∷ []) ⌝ }
 {
     put_field(dst, at, a, x);

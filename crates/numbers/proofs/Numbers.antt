@@ -8,14 +8,14 @@ use native.Mathlib.Omega.{arith}
 use lib.Arith.{digits-lt, digits-div, digits-mod, mod-mul}
 use lib.ListN.{length, take, drop, getD, set, take-append-drop, length-drop}
 use lib.Seq.{drop-cons, take-suc, append-snoc, set-at, length-take-le, take-all, getD-drop}
-use Rattle.numbers.specs.Numbers.{Bytes, bigEndian, onto}
+use Rattle.numbers.specs.Numbers.{Bytes, bigEndian, onto, numberAt}
 
 -- ---- one step along a list
 
 pub part-cons : (s : List ℕ) (k m : ℕ) → k < length s → take (m + 1) (drop k s) ≡ getD s k 0 ∷ take m (drop (k + 1) s)
 part-cons s k m h = rw (add-one, drop-cons s k 0, add-one k)
 
--- the part from k to the end is the rest
+-- The part from k to the end is the rest.
 pub part-rest : (s : List ℕ) (k : ℕ) → take (length s - k) (drop k s) ≡ drop k s
 part-rest s k = take-all (length s - k) (drop k s) (omega (arith, length-drop k s))
 
@@ -27,15 +27,23 @@ back s t k b h =
 
 -- ---- numbers in bytes
 
+-- seven bytes hold less than 2 ^ 56, and a number grows by a byte
 pub pow7 : (i : ℕ) → i ≤ 7 → 256 ^ i ≤ 72057594037927936
 pow7 i h = pow-le-pow-right (omega arith) h
 
 pub grow : (acc b i : ℕ) → acc < 256 ^ i → b < 256 → acc * 256 + b < 256 ^ (i + 1)
 grow acc b i h k = rw (add-one, pow-suc) (digits-lt h k)
 
-pub onto-next : (s : List ℕ) (acc k m : ℕ) → k < length s → onto acc (take (m + 1) (drop k s)) ≡ onto (acc * 256 + getD s k 0) (take m (drop (k + 1) s))
+onto-snoc : (acc : ℕ) (bs : List ℕ) (b : ℕ) → onto acc (bs ++ (b ∷ [])) ≡ onto acc bs * 256 + b
 unfolding onto
-onto-next s acc k m h = ap (onto acc) (part-cons s k m h)
+onto-snoc acc [] b = refl
+onto-snoc acc (x ∷ xs) b = onto-snoc (acc * 256 + x) xs b
+
+-- the number in one byte more
+pub number-next : (s : List ℕ) (a n : ℕ) → a + n < length s → numberAt s a (n + 1) ≡ numberAt s a n * 256 + getD s (a + n) 0
+number-next s a n h =
+    let l : n < length (drop a s) = rw length-drop (omega arith) in
+    rw (add-one, take-suc (drop a s) n 0, onto-snoc, getD-drop)
 
 pub bigEndian-next : (m v : ℕ) → bigEndian (m + 1) v ≡ (v / 256 ^ m) % 256 ∷ bigEndian m v
 unfolding bigEndian
@@ -44,7 +52,7 @@ bigEndian-next m v = rw add-one
 pub shifted-out : (v m : ℕ) → v / 256 ^ m / 256 ≡ v / 256 ^ (m + 1)
 shifted-out v m = rw (add-one, pow-suc) (div-div-eq-div-mul v (256 ^ m) 256)
 
--- s with the last n - i of n bytes from `at` on bigEndian
+-- s with the last n - i of the n bytes of v put in from `at` on
 abbrev pub spelt : List ℕ → ℕ → ℕ → ℕ → ℕ → List ℕ
 spelt s at n v i = take (at + i) s ++ (bigEndian (n - i) v ++ drop (at + n) s)
 
@@ -60,6 +68,8 @@ spelt-more s at n v i h k =
     rw (e, e2, bigEndian-next) (back s (bigEndian (n - (i + 1)) v ++ drop (at + n) s) (at + i) (v / 256 ^ (n - (i + 1)) % 256) (omega arith))
 
 -- ---- numbers, there and back
+
+-- parts of bytes are bytes
 pub bytes-drop : (k : ℕ) (s : List ℕ) → Bytes s → Bytes (drop k s)
 bytes-drop k s h i = rw getD-drop (h (k + i))
 

@@ -21,7 +21,7 @@ pub fn read_number(s: &[u8], at: usize, n: usize) -> u64
     let mut acc: u64 = 0;
     let mut i: usize = 0;
     while i < n {
-        acc = acc * 256 + s[at + i] as u64;
+        acc = acc * 256 + wide(s[at + i]);
         i += 1;
     }
     acc

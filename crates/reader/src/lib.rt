@@ -1,9 +1,9 @@
-// A reader that refers to a sheet and knows its next bit, with thin functions over it, and one above them with plain parameters.
+// A reader that refers to a sheet and knows its next bit, with thin functions over it, and two above them with plain parameters.
 ghost use mathlib.Core.Path.{_≡_};
-ghost use Prim.Native.Nat.{_+_, _*_, _≤_, _<_, _^_};
-ghost use lib.ListN.{length};
+ghost use Prim.Native.Nat.{_+_, _<_, _^_};
 ghost use Rattle.field.specs.Bits.{fieldAt};
-ghost use Rattle.reader.specs.Three.{threeAt};
+ghost use Rattle.field.specs.Fields.{Inside};
+ghost use Rattle.reader.specs.Fields.{threeAt};
 
 pub struct Reader<'a> {
     pub src: &'a [u8],
@@ -26,7 +26,7 @@ pub fn from_bit<'a>(src: &'a [u8], at: usize) -> Reader<'a>
 
 // The field of width bits at the reader's next bit.
 pub fn take<'a>(r: Reader<'a>, width: usize) -> u32
-    requires { ⌜ (width ≤ 32) × (r .at + width ≤ 8 * length (now (r .src))) × (r .at + width ≤ 65536) ⌝ }
+    requires { ⌜ Inside (now (r .src)) (r .at) width ⌝ }
     ensures { λ v. ⌜ v ≡ fieldAt (now (r .entry .src)) (r .entry .at) width ⌝ }
 {
     field::field_at(r.src, r.at, width)
@@ -53,9 +53,18 @@ fn triple_of(first: u32, second: u32, third: u32) -> Triple
     }
 }
 
-// Three fields in a row from bit at, of a, b and c bits, through one reader. A width of 0 leaves a field out.
+// The field of width bits at bit at, through a reader.
+pub fn one(src: &[u8], at: usize, width: usize) -> u32
+    requires { ⌜ Inside (now src) at width ⌝ }
+    ensures { λ r. ⌜ r ≡ fieldAt (now (src .entry)) at width ⌝ }
+{
+    let r = from_bit(src, at);
+    take(r, width)
+}
+
+// Three fields in a row from bit at, of a, b and c bits, through one reader.
 pub fn three(src: &[u8], at: usize, a: usize, b: usize, c: usize) -> Triple
-    requires { ⌜ (a ≤ 32) × (b ≤ 32) × (c ≤ 32) × (at + a + b + c ≤ 8 * length (now src)) × (at + a + b + c ≤ 65536) ⌝ }
+    requires { ⌜ Inside (now src) at a × Inside (now src) (at + a) b × Inside (now src) (at + a + b) c ⌝ }
     ensures { λ r. ⌜ r ≡ threeAt (now (src .entry)) at a b c ⌝ }
 {
     let r = from_bit(src, at);

@@ -9,9 +9,6 @@ use lib.Pow.{pow-lt}
 use Rattle.field.proofs.pow2.Statement.{statement}
 use Rattle.field.proofs.pow2.Tie as tie
 
-shl-result : tie.Need-shl-result
-shl-result c = search needs
-
 one-shifted : (k : ℕ) → k < 64 → 1 * 2 ^ k % 2 ^ 64 ≡ 2 ^ k
 one-shifted k h = rw one-mul (mod-eq-of-lt (pow-lt h))
 
@@ -19,4 +16,4 @@ returns : tie.Need-returns
 returns c = one-shifted _ (omega arith)
 
 pub pow2-spec : {M : Type 1} → statement M
-pow2-spec = tie.close (tie.spec shl-result returns)
+pow2-spec = tie.close (tie.spec (λ c. search needs) returns)

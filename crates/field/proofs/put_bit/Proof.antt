@@ -31,19 +31,7 @@ stored-lt : (c : tie.After-wide) → withBit (c .wide .result) (c .before .befor
 stored-lt c =
     let a = c .before .before .before .before .args in
     rw (c .before .before .pow2 .ensures)
-    (put-lt (c .wide .result) (7 - a .j % 8) (a .b) (omega arith) (omega arith) (omega (arith, c .wide .ensures, c .before .slice-known2 .given (a .j / 8))))
-
-sub-pow2 : tie.Need-sub-pow2
-sub-pow2 c = search needs
-
-pow2-requires : tie.Need-pow2-requires
-pow2-requires c κs = search needs
-
-slice-read-wide : tie.Need-slice-read-wide
-slice-read-wide c = search needs
-
-wide-requires : tie.Need-wide-requires
-wide-requires c κs = search needs
+    (put-lt (c .wide .result) (7 - a .j % 8) (a .b) (omega arith) (omega arith) (c .wide .ensures .1))
 
 div-dst : tie.Need-div-dst
 div-dst c = omega (arith, c .before .before .pow2 .ensures, pow-pos (7 - c .before .before .before .before .args .j % 8))
@@ -63,30 +51,11 @@ add-dst c = omega (arith, stored-lt c)
 cast-dst : tie.Need-cast-dst
 cast-dst c = record { fits = stored-lt c }
 
-slice-write-dst : tie.Need-slice-write-dst
-slice-write-dst c = search needs
-
-same-length : tie.Need-same-length
-same-length c = search needs
-
 returns : tie.Need-returns
 unfolding setBit
-returns c = rw (c .wide .ensures, c .before .before .pow2 .ensures)
+returns c = rw (c .wide .ensures .0, c .before .before .pow2 .ensures)
 
 pub put-bit-spec : {M : Type 1} → statement M
 put-bit-spec =
-    tie.close
-    (tie.spec
-    sub-pow2
-    pow2-requires
-    slice-read-wide
-    wide-requires
-    div-dst
-    mul-dst
-    sub-dst
-    mul-dst-2
-    add-dst
-    cast-dst
-    slice-write-dst
-    same-length
-    returns)
+    tie.close (tie.spec (λ c. search needs) (λ c κs. search needs) (λ c. search needs) (λ c κs. search needs) div-dst mul-dst sub-dst
+    mul-dst-2 add-dst cast-dst (λ c. search needs) (λ c. search needs) returns)

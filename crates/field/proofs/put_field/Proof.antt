@@ -21,7 +21,8 @@ abbrev μ-loop : tie.MeasureT-loop
 μ-loop dst₀ at width value v k₀ dst k = width - k
 
 -- one bit more
-more : (s : List ℕ) (a w k v : ℕ) → k < w → setBit (putAt s a k (v / 2 ^ (w - k))) (a + k) (v / 2 ^ (w - 1 - k) % 2) ≡ putAt s a (k + 1) (v / 2 ^ (w - (k + 1)))
+more : (s : List ℕ) (a w k v : ℕ) → k < w
+    → setBit (putAt s a k (v / 2 ^ (w - k))) (a + k) (v / 2 ^ (w - 1 - k) % 2) ≡ putAt s a (k + 1) (v / 2 ^ (w - (k + 1)))
 unfolding putAt
 more s a w k v h =
     let e : w - 1 - k ≡ w - (k + 1) = omega arith in
@@ -32,18 +33,6 @@ loop-holds : tie.Need-loop-holds Inv-loop μ-loop
 unfolding putAt
 loop-holds c = (omega arith, refl)
 
-add-put-bit : tie.Need-add-put-bit Inv-loop μ-loop
-add-put-bit c = omega arith
-
-sub-pow2 : tie.Need-sub-pow2 Inv-loop μ-loop
-sub-pow2 c = omega arith
-
-sub-pow2-2 : tie.Need-sub-pow2-2 Inv-loop μ-loop
-sub-pow2-2 c = omega arith
-
-pow2-requires : tie.Need-pow2-requires Inv-loop μ-loop
-pow2-requires c κs = omega arith
-
 div-put-bit : tie.Need-div-put-bit Inv-loop μ-loop
 div-put-bit c = omega (arith, c .pow2 .ensures, pow-pos (c .before .before .before .before .before .args .width - 1 - c .before .before .before .loop .k))
 
@@ -53,19 +42,13 @@ put-bit-requires c κs =
     let l = c .before .before .before .loop in
     omega (arith, ap length (l .inv .1), length-putAt (now (a .dst)) (a .at) (l .k) (a .value / 2 ^ (a .width - l .k)))
 
-add-k : tie.Need-add-k Inv-loop μ-loop
-add-k c = omega arith
-
-loop-less : tie.Need-loop-less Inv-loop μ-loop
-loop-less c = omega arith
-
 loop-again : tie.Need-loop-again Inv-loop μ-loop
 loop-again c =
-    let a = c .before .before .before .before .before .before .before .before .args in
-    let l = c .before .before .before .before .before .before .loop in
-    let m : setBit (l .dst) (a .at + l .k) (a .value / c .before .before .before .pow2 .result % 2) ≡ putAt (now (a .dst)) (a .at) (l .k + 1) (a .value / 2 ^ (a .width - (l .k + 1))) =
-    rw (l .inv .1, c .before .before .before .pow2 .ensures) (more (now (a .dst)) (a .at) (a .width) (l .k) (a .value) (omega arith)) in
-    (omega arith, c .before .before .put-bit .ensures ∙ m)
+    let put = c .before .before in
+    let power = put .before .pow2 in
+    let l = put .before .before .before .before .loop in
+    let a = put .before .before .before .before .before .before .args in
+    (omega arith, put .put-bit .ensures ∙ rw (l .inv .1, power .ensures) (more (now (a .dst)) (a .at) (a .width) (l .k) (a .value) (omega arith)))
 
 same-length : tie.Need-same-length Inv-loop μ-loop
 same-length c = ap length (c .before .loop .inv .1) ∙ length-putAt _ _ _ _
@@ -81,19 +64,5 @@ returns c =
 
 pub put-field-spec : {M : Type 1} → statement M
 put-field-spec =
-    tie.close
-    (tie.spec
-    Inv-loop
-    μ-loop
-    loop-holds
-    add-put-bit
-    sub-pow2
-    sub-pow2-2
-    pow2-requires
-    div-put-bit
-    put-bit-requires
-    add-k
-    loop-less
-    loop-again
-    same-length
-    returns)
+    tie.close (tie.spec Inv-loop μ-loop loop-holds (λ c. omega arith) (λ c. omega arith) (λ c. omega arith) (λ c κs. omega arith)
+    div-put-bit put-bit-requires (λ c. omega arith) (λ c. omega arith) loop-again same-length returns)

@@ -21,21 +21,6 @@ loop-holds c =
     let e : c .args .n - c .args .n ≡ 0 = omega arith in
     (omega arith, (refl, (rw e (sym (div-one (c .args .v))), spelt-none (c .args .s .now) (c .args .at) (c .args .n) (c .args .v))))
 
-sub-i : tie.Need-sub-i Inv-loop μ-loop
-sub-i c = omega arith
-
-cast-s : tie.Need-cast-s Inv-loop μ-loop
-cast-s c = omega arith
-
-add-s : tie.Need-add-s Inv-loop μ-loop
-add-s c = omega arith
-
-slice-write-s : tie.Need-slice-write-s Inv-loop μ-loop
-slice-write-s c = omega arith
-
-loop-less : tie.Need-loop-less Inv-loop μ-loop
-loop-less c = omega arith
-
 loop-again : tie.Need-loop-again Inv-loop μ-loop
 loop-again c =
     let a = c .before .before .args in
@@ -69,4 +54,6 @@ returns c =
     c .before .loop .inv .1 .1 .1 ∙ ap (spelt (a .s .now) (a .at) (a .n) (a .v)) e ∙ rw (e2, e3)
 
 pub write-number-spec : {M : Type 1} → statement M
-write-number-spec = tie.close (tie.spec Inv-loop μ-loop loop-holds sub-i cast-s add-s slice-write-s loop-less loop-again same-length returns)
+write-number-spec =
+    tie.close (tie.spec Inv-loop μ-loop loop-holds (λ c. omega arith) (λ c. omega arith) (λ c. omega arith) (λ c. omega arith)
+    (λ c. omega arith) loop-again same-length returns)

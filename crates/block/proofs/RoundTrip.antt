@@ -1,22 +1,24 @@
 -- A block that is written is read back, and a block that is read is what its component's block is. Assumes nothing.
-use mathlib.Core.Path.{_≡_, refl, sym}
-use mathlib.Core.Bool.{true}
+use mathlib.Core.Path.{_≡_, refl, sym, ap}
+use mathlib.Core.Bool.{false}
 use mathlib.Core.List.{List}
 use Prim.Native.Nat.{ℕ, zero, suc, _+_, _*_, _^_, _≤_, _<_}
 use native.Mathlib.Decide.{ℕ-discrete}
 use native.Mathlib.Omega.{arith}
 use lib.Dec.{lit<}
-use lib.ListN.{length, getD}
+use lib.ListN.{length}
 use lib.Pow.{pow-pos}
 use Rattle.field.specs.Bits.{fieldAt}
 use Rattle.field.specs.Fields.{widthOf, Fitting, Holds}
 use Rattle.field.proofs.Fields.{width-append, fitting-append, holds-append, holds-left, holds-right}
+use Rattle.theory.specs.Limits.{mostHeld}
+use Rattle.theory.specs.Focal.{Focal, focalAt}
 use Rattle.theory.specs.declared.Component.{Component}
-use Rattle.block.specs.Block.{placeOf, sizeOf, paddingOf, countIn, totalIn, intervalIn, whole, zeroed, componentOf, componentIn, intervalOf, intervalsOf, fieldsOf, cleaned}
-use Rattle.block.proofs.Rows.{row-ext, row-used}
-use Rattle.block.proofs.Laws.{whole-is, is-whole, zeroed-is, is-zeroed}
+use Rattle.block.specs.Block.{countBits, totalBits, speedBits, weightBits, intervalBits, placeOf, sizeOf, paddingOf, countIn, totalIn}
+use Rattle.block.specs.Block.{intervalIn, cutShort, badZeroBits, componentOf, componentIn, intervalOf, intervalsOf, fieldsOf, cleaned}
+use Rattle.block.proofs.Laws.{uncut, is-uncut, zero-bits, no-bad-bits, filled-ext, filled-used}
 
-pub width-intervals : (c : Component) (n : ℕ) → widthOf (intervalsOf c n) ≡ 34 * n
+pub width-intervals : (c : Component) (n : ℕ) → widthOf (intervalsOf c n) ≡ intervalBits * n
 unfolding intervalsOf widthOf
 width-intervals c zero = refl
 width-intervals c (suc n) = rw (width-append (intervalsOf c n) (intervalOf c n), width-intervals c n) (omega arith)
@@ -61,51 +63,44 @@ module _ (s : List ℕ) (c : Component) (h : Holds s 0 (fieldsOf c)) where
   component : componentOf s (c .count) (c .total) ≡ cleaned c
   unfolding componentOf cleaned Holds
   component =
-      rw (
-        row-ext 0 8 (λ i. (intervalIn s i) .first) (λ i. getD (c .lows) i 0) (c .count) (λ i p. at-place s c (c .count) i held p .0),
-        row-ext 0 8 (λ i. (intervalIn s i) .second) (λ i. getD (c .highs) i 0) (c .count) (λ i p. at-place s c (c .count) i held p .1 .0),
-        row-ext 0 8 (λ i. (intervalIn s i) .third) (λ i. getD (c .weights) i 0) (c .count) (λ i p. at-place s c (c .count) i held p .1 .1 .0),
-      )
+      filled-ext (intervalIn s) (focalAt c) (c .count) (c .count) (c .total) (λ i p.
+      let at = at-place s c (c .count) i held p in
+      rw (at .0, at .1 .0, at .1 .1 .0))
 
   -- what is written is read back, in the used places
-  pub read-written : 1 ≤ c .count → c .count ≤ 8 → sizeOf (c .count) ≤ length s
-      → (countIn s ≡ c .count) × (whole s ≡ true) × (zeroed s ≡ true) × (componentIn s ≡ cleaned c)
+  pub read-written : 1 ≤ c .count → c .count ≤ mostHeld → sizeOf (c .count) ≤ length s
+      → (countIn s ≡ c .count) × (cutShort s ≡ false) × (badZeroBits s ≡ false) × (componentIn s ≡ cleaned c)
   unfolding fieldsOf Holds
   read-written lo hi l =
       let k : countIn s ≡ c .count = h .0 in
       let t : totalIn s ≡ c .total = h .1 .1 .0 in
-      (k, is-whole s (omega arith) (omega arith) (rw k l), is-zeroed s (h .1 .0) (rw k padding), rw (k, t) component)
+      (k, is-uncut s (record { least = omega arith; most = omega arith; there = rw k l }), no-bad-bits s (h .1 .0) (rw k padding), rw (k, t) component)
 
 -- what is read is what would be written
-pub written-read : (s : List ℕ) → whole s ≡ true → zeroed s ≡ true → Holds s 0 (fieldsOf (componentIn s))
+pub written-read : (s : List ℕ) → cutShort s ≡ false → badZeroBits s ≡ false → Holds s 0 (fieldsOf (componentIn s))
 unfolding fieldsOf Holds componentOf
 written-read s e z =
     let k = countIn s in
     let c = componentIn s in
-    let hi = whole-is s e .1 in
     let w : placeOf 0 + widthOf (intervalsOf c k) ≡ placeOf k = rw (width-intervals c k) in
-    let each : (i : ℕ) → i < k → Holds s (placeOf i) (intervalOf c i) = λ i p. (
-      sym (row-used 0 8 0 (λ j. (intervalIn s j) .first) k i p hi),
-      (
-        sym (row-used 0 8 0 (λ j. (intervalIn s j) .second) k i p hi),
-        (
-          sym (row-used 0 8 0 (λ j. (intervalIn s j) .third) k i p hi),
-          tt,
-        ),
-      ),
-    ) in
-    (refl, (zeroed-is s z .0, (refl, holds-append s (placeOf 0) (intervalsOf c k) _ (all-places s c k each) (rw w (zeroed-is s z .1, tt)))))
+    let each : (i : ℕ) → i < k → Holds s (placeOf i) (intervalOf c i) = λ i p.
+    let f = sym (filled-used (intervalIn s) k k (totalIn s) i p (uncut s e .most)) in
+    (ap (λ (x : Focal). x .low) f, (ap (λ (x : Focal). x .high) f, (ap (λ (x : Focal). x .weight) f, tt))) in
+    (refl, (zero-bits s z .0, (refl, holds-append s (placeOf 0) (intervalsOf c k) _ (all-places s c k each) (rw w (zero-bits s z .1, tt)))))
 
--- a block's fields fit where its numbers do
-fitting-intervals : (c : Component) (n : ℕ) → ((i : ℕ) → i < n → (getD (c .lows) i 0 < 2 ^ 12) × (getD (c .highs) i 0 < 2 ^ 12) × (getD (c .weights) i 0 < 2 ^ 10)) → Fitting (intervalsOf c n)
+-- an interval whose numbers fit their fields, and a block's fields where each of its intervals is one
+abbrev pub FitsFields : Focal → Type 0
+FitsFields f = (f .low < 2 ^ speedBits) × (f .high < 2 ^ speedBits) × (f .weight < 2 ^ weightBits)
+
+fitting-intervals : (c : Component) (n : ℕ) → ((i : ℕ) → i < n → FitsFields (focalAt c i)) → Fitting (intervalsOf c n)
 unfolding intervalsOf Fitting
 fitting-intervals c zero h = tt
 fitting-intervals c (suc n) h =
     let l = h n (omega arith) in
     fitting-append (intervalsOf c n) (intervalOf c n) (fitting-intervals c n (λ i p. h i (omega arith))) (l .0, (l .1, (l .2, tt)))
 
-pub fitting-fieldsOf : (c : Component) → c .count < 2 ^ 4 → c .total < 2 ^ 10
-    → ((i : ℕ) → i < c .count → (getD (c .lows) i 0 < 2 ^ 12) × (getD (c .highs) i 0 < 2 ^ 12) × (getD (c .weights) i 0 < 2 ^ 10)) → Fitting (fieldsOf c)
+pub fitting-fieldsOf : (c : Component) → c .count < 2 ^ countBits → c .total < 2 ^ totalBits
+    → ((i : ℕ) → i < c .count → FitsFields (focalAt c i)) → Fitting (fieldsOf c)
 unfolding fieldsOf Fitting
 fitting-fieldsOf c k t h =
     (k, (lit< tt, (t, fitting-append (intervalsOf c (c .count)) _ (fitting-intervals c (c .count) h) (pow-pos (paddingOf (c .count)), tt))))
