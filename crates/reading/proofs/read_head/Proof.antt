@@ -1,7 +1,7 @@
 -- `reading::read_head` meets its contract. Assumes nothing.
 use borrow.Author.Needs.{needs}
 use borrow.Author.Tests.{lt-ltb, le-ltb}
-use mathlib.Core.Path.{_≡_, ap, _∙_}
+use mathlib.Core.Path.{ap, _∙_}
 use lib.ListN.{length}
 use denote.Ref.{now}
 use Rattle.reader.specs.declared.Triple.{Triple}
