@@ -11,7 +11,7 @@ use lib.ListN.{length}
 use lib.Pow.{pow-mono}
 use Rattle.field.specs.Bits.{fieldAt}
 use Rattle.field.proofs.Field.{field-lt}
-use Rattle.reader.specs.Three.{threeAt}
+use Rattle.reader.specs.Fields.{threeAt}
 use Rattle.reader.specs.declared.Triple.{Triple}
 use Rattle.theory.specs.Limits.{mostHeld}
 use Rattle.theory.specs.Focal.{Focal, focalAt}
@@ -32,7 +32,7 @@ neither false b e = (refl, e)
 
 -- a block that is not cut short: k is 1 to 8, and its bytes are there
 pub record Uncut (s : List ℕ) : Type 0 where
-  pub some : 1 ≤ countIn s
+  pub least : 1 ≤ countIn s
   pub most : countIn s ≤ mostHeld
   pub there : sizeOf (countIn s) ≤ length s
 
@@ -41,11 +41,11 @@ unfolding cutShort
 uncut s e =
     let a = neither (ltb (countIn s) 1 || ltb mostHeld (countIn s)) (ltb (length s) (sizeOf (countIn s))) e in
     let b = neither (ltb (countIn s) 1) (ltb mostHeld (countIn s)) (a .0) in
-    record { some = ltb-false (countIn s) 1 (b .0); most = ltb-false mostHeld (countIn s) (b .1); there = ltb-false (length s) (sizeOf (countIn s)) (a .1) }
+    record { least = ltb-false (countIn s) 1 (b .0); most = ltb-false mostHeld (countIn s) (b .1); there = ltb-false (length s) (sizeOf (countIn s)) (a .1) }
 
 pub is-uncut : (s : List ℕ) → Uncut s → cutShort s ≡ false
 unfolding cutShort
-is-uncut s u = simp (le-ltb (countIn s) 1 (u .some), le-ltb mostHeld (countIn s) (u .most), le-ltb (length s) (sizeOf (countIn s)) (u .there))
+is-uncut s u = simp (le-ltb (countIn s) 1 (u .least), le-ltb mostHeld (countIn s) (u .most), le-ltb (length s) (sizeOf (countIn s)) (u .there))
 
 pub is-cut : (s : List ℕ) → (Uncut s → ⊥) → cutShort s ≡ true
 is-cut s h = go (cutShort s) refl
@@ -66,7 +66,8 @@ unfolding badZeroBits
 no-bad-bits s a b = simp (a, b)
 
 -- the two cases of a block that is read
-pub block-uncut : (s : List ℕ) → cutShort s ≡ false → blockIn s ≡ record { cut = false; nonzero = badZeroBits s; size = sizeOf (countIn s); component = componentIn s }
+pub block-uncut : (s : List ℕ) → cutShort s ≡ false
+    → blockIn s ≡ record { cut = false; nonzero = badZeroBits s; size = sizeOf (countIn s); component = componentIn s }
 unfolding blockIn
 block-uncut s e = rw e
 

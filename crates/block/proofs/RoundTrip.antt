@@ -14,7 +14,8 @@ use Rattle.field.proofs.Fields.{width-append, fitting-append, holds-append, hol
 use Rattle.theory.specs.Limits.{mostHeld}
 use Rattle.theory.specs.Focal.{Focal, focalAt}
 use Rattle.theory.specs.declared.Component.{Component}
-use Rattle.block.specs.Block.{countBits, totalBits, speedBits, weightBits, intervalBits, placeOf, sizeOf, paddingOf, countIn, totalIn, intervalIn, cutShort, badZeroBits, componentOf, componentIn, intervalOf, intervalsOf, fieldsOf, cleaned}
+use Rattle.block.specs.Block.{countBits, totalBits, speedBits, weightBits, intervalBits, placeOf, sizeOf, paddingOf, countIn, totalIn}
+use Rattle.block.specs.Block.{intervalIn, cutShort, badZeroBits, componentOf, componentIn, intervalOf, intervalsOf, fieldsOf, cleaned}
 use Rattle.block.proofs.Laws.{uncut, is-uncut, zero-bits, no-bad-bits, filled-ext, filled-used}
 
 pub width-intervals : (c : Component) (n : ℕ) → widthOf (intervalsOf c n) ≡ intervalBits * n
@@ -73,7 +74,7 @@ module _ (s : List ℕ) (c : Component) (h : Holds s 0 (fieldsOf c)) where
   read-written lo hi l =
       let k : countIn s ≡ c .count = h .0 in
       let t : totalIn s ≡ c .total = h .1 .1 .0 in
-      (k, is-uncut s (record { some = omega arith; most = omega arith; there = rw k l }), no-bad-bits s (h .1 .0) (rw k padding), rw (k, t) component)
+      (k, is-uncut s (record { least = omega arith; most = omega arith; there = rw k l }), no-bad-bits s (h .1 .0) (rw k padding), rw (k, t) component)
 
 -- what is read is what would be written
 pub written-read : (s : List ℕ) → cutShort s ≡ false → badZeroBits s ≡ false → Holds s 0 (fieldsOf (componentIn s))
@@ -98,7 +99,8 @@ fitting-intervals c (suc n) h =
     let l = h n (omega arith) in
     fitting-append (intervalsOf c n) (intervalOf c n) (fitting-intervals c n (λ i p. h i (omega arith))) (l .0, (l .1, (l .2, tt)))
 
-pub fitting-fieldsOf : (c : Component) → c .count < 2 ^ countBits → c .total < 2 ^ totalBits → ((i : ℕ) → i < c .count → FitsFields (focalAt c i)) → Fitting (fieldsOf c)
+pub fitting-fieldsOf : (c : Component) → c .count < 2 ^ countBits → c .total < 2 ^ totalBits
+    → ((i : ℕ) → i < c .count → FitsFields (focalAt c i)) → Fitting (fieldsOf c)
 unfolding fieldsOf Fitting
 fitting-fieldsOf c k t h =
     (k, (lit< tt, (t, fitting-append (intervalsOf c (c .count)) _ (fitting-intervals c (c .count) h) (pow-pos (paddingOf (c .count)), tt))))

@@ -1,1 +1,1 @@
-pub mod Three
+pub mod Fields

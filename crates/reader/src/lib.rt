@@ -3,7 +3,7 @@ ghost use mathlib.Core.Path.{_≡_};
 ghost use Prim.Native.Nat.{_+_, _<_, _^_};
 ghost use Rattle.field.specs.Bits.{fieldAt};
 ghost use Rattle.field.specs.Fields.{Inside};
-ghost use Rattle.reader.specs.Three.{threeAt};
+ghost use Rattle.reader.specs.Fields.{threeAt};
 
 pub struct Reader<'a> {
     pub src: &'a [u8],

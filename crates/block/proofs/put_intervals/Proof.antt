@@ -6,7 +6,6 @@ use native.Mathlib.Numerals.{add-one}
 use native.Mathlib.Omega.{arith}
 use borrow.Author.Needs.{needs}
 use denote.Ref.{now}
-use lib.Dec.{lit≤}
 use lib.ListN.{length}
 use Rattle.field.specs.Fields.{putAll}
 use Rattle.field.proofs.Fields.{length-putAll, putAll-append}
@@ -35,8 +34,9 @@ loop-holds c = (omega arith, refl)
 put-three-requires : tie.Need-put-three-requires Inv-loop μ-loop
 put-three-requires c κs =
     let l = c .before .before .before .before .before .before .loop in
-    let h : length (l .dst) ≡ length (now (c .before .before .before .before .before .before .before .before .args .dst)) = ap length (l .inv .1) ∙ length-putAll _ _ _ in
-    (record { narrow = lit≤ tt; within = omega arith; near = omega arith }, record { narrow = lit≤ tt; within = omega arith; near = omega arith }, record { narrow = lit≤ tt; within = omega arith; near = omega arith })
+    let a = c .before .before .before .before .before .before .before .before .args in
+    let h : length (l .dst) ≡ length (now (a .dst)) = ap length (l .inv .1) ∙ length-putAll _ _ _ in
+    search needs
 
 loop-again : tie.Need-loop-again Inv-loop μ-loop
 loop-again c =

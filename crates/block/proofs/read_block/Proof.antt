@@ -8,7 +8,7 @@ use borrow.Author.Needs.{needs}
 use denote.Ref.{now}
 use lib.Dec.{ltb, lit≤}
 use Rattle.field.specs.Bits.{fieldAt}
-use Rattle.reader.specs.Three.{threeAt}
+use Rattle.reader.specs.Fields.{threeAt}
 use Rattle.reader.specs.declared.Triple.{Triple}
 use Rattle.theory.specs.declared.Component.{Component}
 use Rattle.block.specs.Block.{countBits, zeroBits, totalBits, placeOf, sizeOf, countIn, badZeroBits, componentOf, noBlock, blockIn}
@@ -17,13 +17,17 @@ use Rattle.block.proofs.Laws.{Uncut, narrow, is-uncut, is-cut, block-un
 use Rattle.block.proofs.read_block.Statement.{statement}
 use Rattle.block.proofs.read_block.Tie as tie
 
--- k as it was read
-counted : (c : tie.After-three) → c .three .result .first ≡ countIn (now (c .before .before .before .args .part))
+-- the sheet's part, and k as it was read
+abbrev part : tie.After-three → List ℕ
+part c = now (c .before .before .before .args .part)
+
+counted : (c : tie.After-three) → c .three .result .first ≡ countIn (part c)
 counted c = ap (λ (t : Triple). t .first) (c .three .ensures)
 
 -- the answer, of its parts
-built : (s : List ℕ) (h : Triple) (size end padding : ℕ) (c : Component) (b : Bool) → h ≡ threeAt s 0 countBits zeroBits totalBits → size ≡ sizeOf (h .first) → end ≡ placeOf (h .first)
-    → padding ≡ fieldAt s end (8 * size - end) → c ≡ componentOf s (h .first) (h .third) → b ≡ (ltb 0 (h .second) || ltb 0 padding) → Uncut s
+built : (s : List ℕ) (h : Triple) (size end padding : ℕ) (c : Component) (b : Bool) → h ≡ threeAt s 0 countBits zeroBits totalBits
+    → size ≡ sizeOf (h .first) → end ≡ placeOf (h .first) → padding ≡ fieldAt s end (8 * size - end)
+    → c ≡ componentOf s (h .first) (h .third) → b ≡ (ltb 0 (h .second) || ltb 0 padding) → Uncut s
     → _≡_ {A = Block} (record { cut = false; nonzero = b; size = size; component = c }) (blockIn s)
 unfolding badZeroBits
 built s h size end padding c b e z p f g i u = rw (i, g, f, z, p, e) (sym (block-uncut s (is-uncut s u)))
@@ -37,18 +41,21 @@ returns c = none (now (c .before .before .before .args .part)) _ (c .no-block .e
 
 returns-2 : tie.Need-returns-2
 returns-2 c =
-    let e = counted (c .before .before .before) in
-    none (now (c .before .before .before .before .before .before .args .part)) _ (c .no-block2 .ensures) (λ u. omega arith)
+    let head = c .before .before .before in
+    let e = counted head in
+    none (part head) _ (c .no-block2 .ensures) (λ u. omega arith)
 
 returns-3 : tie.Need-returns-3
 returns-3 c =
-    let e = counted (c .before .before .before .before) in
-    none (now (c .before .before .before .before .before .before .before .args .part)) _ (c .no-block3 .ensures) (λ u. omega arith)
+    let head = c .before .before .before .before in
+    let e = counted head in
+    none (part head) _ (c .no-block3 .ensures) (λ u. omega arith)
 
 returns-4 : tie.Need-returns-4
 returns-4 c =
-    let e = counted (c .before .before .before .before .before .before) in
-    none (now (c .before .before .before .before .before .before .before .before .before .args .part)) _ (c .no-block4 .ensures) (λ u. omega arith)
+    let head = c .before .before .before .before .before .before in
+    let e = counted head in
+    none (part head) _ (c .no-block4 .ensures) (λ u. omega arith)
 
 cast-read-component : tie.Need-cast-read-component
 cast-read-component c =
@@ -63,8 +70,9 @@ returns-5 c =
     let size = place .before .before in
     let head = size .before .before .before .before in
     let e = counted head in
-    built (now (head .before .before .before .args .part)) (head .three .result) _ _ (padding .one .result) _ _ (head .three .ensures) (size .block-size .ensures) (place .interval-place .ensures) (padding .one .ensures)
-    (component .read-component .ensures) (c .either-nonzero .ensures) (record { some = omega arith; most = omega arith; there = omega arith })
+    built (part head) (head .three .result) _ _ (padding .one .result) _ _
+    (head .three .ensures) (size .block-size .ensures) (place .interval-place .ensures) (padding .one .ensures)
+    (component .read-component .ensures) (c .either-nonzero .ensures) (record { least = omega arith; most = omega arith; there = omega arith })
 
 pub read-block-spec : {M : Type 1} → statement M
 read-block-spec =

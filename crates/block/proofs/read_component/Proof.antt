@@ -8,7 +8,7 @@ use borrow.Author.Needs.{needs}
 use denote.Ref.{now}
 use lib.Dec.{lit≤}
 use lib.ListN.{set}
-use Rattle.reader.specs.Three.{threeAt}
+use Rattle.reader.specs.Fields.{threeAt}
 use Rattle.reader.specs.declared.Triple.{Triple}
 use Rattle.theory.specs.declared.Component.{Component}
 use Rattle.block.specs.Rows.{row}
@@ -22,8 +22,18 @@ abbrev soFar : List ℕ → ℕ → Component
 soFar s k = filledWith (intervalIn s) k 0 0
 
 -- one interval more
+abbrev with-interval : Component → ℕ → Triple → Component
+with-interval c i t =
+    record {
+      lows = set (c .lows) i (t .first);
+      highs = set (c .highs) i (t .second);
+      weights = set (c .weights) i (t .third);
+      count = c .count;
+      total = c .total;
+    }
+
 turn : (s : List ℕ) (i p : ℕ) (c : Component) (t : Triple) → c ≡ soFar s i → p ≡ placeOf i → t ≡ threeAt s p speedBits speedBits weightBits
-    → _≡_ {A = Component} (record { lows = set (c .lows) i (t .first); highs = set (c .highs) i (t .second); weights = set (c .weights) i (t .third); count = c .count; total = c .total }) (soFar s (i + 1))
+    → with-interval c i t ≡ soFar s (i + 1)
 unfolding row
 turn s i p c t e q f = rw (e, f, q, add-one)
 

@@ -25,7 +25,8 @@ returns c =
     let intervals = sized .before .before .before .before in
     let head = intervals .before .before .before .before in
     let placed = head .before .before .before in
-    all _ _ _ _ (placed .before .before .args .c) _ _ (placed .interval-place .ensures) (sized .block-size .ensures) (head .put-three .ensures) (intervals .put-intervals .ensures) (padded .put-field .ensures)
+    all _ _ _ _ (placed .before .before .args .c) _ _ (placed .interval-place .ensures) (sized .block-size .ensures)
+    (head .put-three .ensures) (intervals .put-intervals .ensures) (padded .put-field .ensures)
 
 pub write-block-spec : {M : Type 1} → statement M
 write-block-spec =

@@ -60,8 +60,9 @@ module _ {M : Type 1} (𝓤 : URA M) (H : Heap 𝓤) (A : Atoms 𝓤) (W : Given
   exits =
       let α = namedLft 1 0 tt (κ, tt) in
       qed W (Token κ q ∷ ‵ (owns (ShrSlice (named 0) κ u8 ∷ usize ∷ []) (s, (n, tt)) vals) ∷ []) ∵
-      suffices ! _ (ends-at 𝓤 H A new.ended stayed (new.clauses 𝓤 H A mem run) W (((κ, tt), (q, tt), tt, (s, (n, tt)), vals), tt) (T′.lowered made) made (tt, (tt, tt)) (tt, (tt, tt))) $
-      says ! (refl, refl) $ frame ! $ fsplit ! $ use1 W (‵ (OwnSlice κ s) ⊛ ‵ (OwnSlice κ s)) (shr-slice-copy 𝓤 H A W (named 0) κ u8 .twice s (sliceOf s ∷ [])) $
+      suffices ! _ (ends-at 𝓤 H A new.ended stayed (new.clauses 𝓤 H A mem run) W (((κ, tt), (q, tt), tt, (s, (n, tt)), vals), tt)
+      (T′.lowered made) made (tt, (tt, tt)) (tt, (tt, tt))) $ says ! (refl, refl) $ frame ! $ fsplit ! $
+      use1 W (‵ (OwnSlice κ s) ⊛ ‵ (OwnSlice κ s)) (shr-slice-copy 𝓤 H A W (named 0) κ u8 .twice s (sliceOf s ∷ [])) $
       split ! $ move ! (0 ∷ 2 ∷ []) $ fjoin ! $ frame ! $
       -- [what src owns]: what the fields own together, of it and of at's facts, is what the struct owns
       nothing ! $ number ! n fits $ move ! (1 ∷ 0 ∷ []) $ fjoin ! $ by ! (own-shut 𝓤 H A W (T.the-type α) (T′.the-laws α) (s, (n, tt)))
@@ -72,14 +73,16 @@ module _ {M : Type 1} (𝓤 : URA M) (H : Heap 𝓤) (A : Atoms 𝓤) (W : Given
     walk p =
         let is = shr-slice-lawful 𝓤 H A W (named 0) κ u8 .typed s (sliceOf s ∷ []) p .0 in
         qed W (raw (onEntry 𝓤 H A new.signature (κ, tt) (q, tt) (s, (n, tt)) vals) ∷ []) ∵ enter ! C Λ code.function (sliceOf s ∷ vint w64 n ∷ []) _ $
-        alloc1 ! (λ l₀. alloc1 ! (λ l₁. alloc1 ! (λ l₂. alloc0 ! $ params1 ! $ pass1 ! (init ! 2 refl is) $ pass1 ! (init ! 0 refl (tt, record { fits = fits })) $ pass0 ! $
+        alloc1 ! (λ l₀. alloc1 ! (λ l₁. alloc1 ! (λ l₂. alloc0 ! $ params1 ! $
+        pass1 ! (init ! 2 refl is) $ pass1 ! (init ! 0 refl (tt, record { fits = fits })) $ pass0 ! $
         assigns ! (agg ! (both ! (local ! 2 refl) (local ! 0 refl))) (from ! (stop !)) (init ! 4 refl (tt, (is .1, (record { fits = fits }, tt)))) $
-        returns ! (look ! 4 refl) $ move ! (4 ∷ 5 ∷ []) $ gone ! $ move ! (2 ∷ 3 ∷ []) $ gone ! $ gone ! $ free0 ! $ by ! exits)))
+        returns ! (look ! 4 refl) $ gone ! 4 refl $ gone ! 2 refl $ gone ! 0 refl $ free0 ! $ by ! exits)))
 
 new-meets : {M : Type 1} (𝓤 : URA M) (H : Heap 𝓤) (A : Atoms 𝓤) → Given 𝓤 H A → (mem : Memory → SProp 𝓤) (run : Routine → Fun 𝓤) (𝓣 : Tables 𝓤 H)
     → Meets 𝓤 H A new.signature (WpFn 𝓤 H (𝓣 .C) (𝓣 .Λ) code.function) (new.spec 𝓤 H A mem run)
 new-meets 𝓤 H A W mem run 𝓣 =
-    walk-meets 𝓤 H A new.ended stayed W (goes-none-slice 𝓤 H A W 1 (0 ∷ []) tt (plain (λ _. u8)) yes, (goes-none 𝓤 H A W 1 (λ _. usize) yes (λ κs x f. refl), tt))
+    walk-meets 𝓤 H A new.ended stayed W
+    (goes-none-slice 𝓤 H A W 1 (0 ∷ []) tt (plain (λ _. u8)) yes, (goes-none 𝓤 H A W 1 (λ _. usize) yes (λ κs x f. refl), tt))
     (new.clauses 𝓤 H A mem run) (WpFn 𝓤 H (𝓣 .C) (𝓣 .Λ) code.function) (WpFn-mono 𝓤 H (W .laws) 𝓣 code.function)
     (walked 𝓤 H A new.ended stayed (new.clauses 𝓤 H A mem run) (WpFn 𝓤 H (𝓣 .C) (𝓣 .Λ) code.function)
     (λ κs. (slice-vals, (uint-vals w64, tt))) (λ κs. (shr-slice-tells (named 0) (κs .0) u8, (uint-tells w64, tt)))

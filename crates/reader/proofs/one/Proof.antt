@@ -61,7 +61,8 @@ module _ {M : Type 1} (𝓤 : URA M) (H : Heap 𝓤) (A : Atoms 𝓤) (W : Given
   exits : (y : ℕ) (x : Val) → y ≡ fieldAt (now s) n w → ent 𝓤 (⋆ 𝓤 H A (‵ (u32 .own y (x ∷ [])) ∷ Token κ q ∷ ‵ (OwnSlice κ s) ∷ [])) (Post x)
   exits y x e =
       qed W (‵ (u32 .own y (x ∷ [])) ∷ Token κ q ∷ ‵ (OwnSlice κ s) ∷ []) ∵
-      suffices ! _ (ends-at 𝓤 H A one.ended stayed (one.clauses 𝓤 H A mem run) W (((κ, tt), (q, tt), tt, args, vals), tt) x y (tt, (tt, (tt, tt))) (tt, (tt, (tt, tt)))) $
+      suffices ! _ (ends-at 𝓤 H A one.ended stayed (one.clauses 𝓤 H A mem run) W (((κ, tt), (q, tt), tt, args, vals), tt) x y
+      (tt, (tt, (tt, tt))) (tt, (tt, (tt, tt)))) $
       says ! e $ move ! (1 ∷ []) $ frame ! $ nothing ! $ number ! w w-fits $ number ! n n-fits $ move ! (2 ∷ 0 ∷ []) $ fjoin ! $ frame ! $ done !
 
   module _ (C : Calls 𝓤 H) (Λ : Loops 𝓤 H) (fm : FmC 𝓤 H (W .laws) C)
@@ -82,8 +83,7 @@ module _ {M : Type 1} (𝓤 : URA M) (H : Heap 𝓤) (A : Atoms 𝓤) (W : Given
         takes 𝓤 H A W mem run κ q s ! fm known-take n u w w-fits ok (both ! (local ! 2 refl) (local ! 6 refl)) (λ x y e is′.
         -- [the field; the token; what s owns; _5; …]
         landed ! 13 refl is′ $ returns ! (look ! 13 refl) $
-        move ! (13 ∷ 14 ∷ []) $ gone ! $ move ! (11 ∷ 12 ∷ []) $ gone ! $ move ! (9 ∷ 10 ∷ []) $ gone ! $ move ! (7 ∷ 8 ∷ []) $ gone ! $ move ! (5 ∷ 6 ∷ []) $ gone ! $
-        move ! (3 ∷ 4 ∷ []) $ gone ! $ free0 ! $ by ! (exits y x e)))))))))
+        gone ! 13 refl $ gone ! 11 refl $ gone ! 9 refl $ gone ! 7 refl $ gone ! 5 refl $ gone ! 3 refl $ free0 ! $ by ! (exits y x e)))))))))
 
 module _ {M : Type 1} (𝓤 : URA M) (H : Heap 𝓤) (A : Atoms 𝓤) (W : Given 𝓤 H A) (mem : Memory → SProp 𝓤) (run : Routine → Fun 𝓤) where
   one-meets : (𝓣 : Tables 𝓤 H) → Triple 𝓤 (𝓣 .C #reader·from-bit) (From 𝓤 H A mem run) → Triple 𝓤 (𝓣 .C #reader·take) (Take 𝓤 H A mem run)
@@ -95,7 +95,8 @@ module _ {M : Type 1} (𝓤 : URA M) (H : Heap 𝓤) (A : Atoms 𝓤) (W : Given
       (walked 𝓤 H A one.ended stayed (one.clauses 𝓤 H A mem run) (WpFn 𝓤 H (𝓣 .C) (𝓣 .Λ) code.function)
       (λ κs. (slice-vals, (uint-vals w64, (uint-vals w64, tt)))) (λ κs. (shr-slice-tells (named 0) (κs .0) u8, (uint-tells w64, (uint-tells w64, tt))))
       (λ κs qs bounds a g are. needs 𝓤 _ _ (λ ok.
-      walk 𝓤 H A W mem run (κs .0) (qs .0) (a .0) (a .1 .0) (a .1 .1 .0) (are .1 .0 .1) (are .1 .1 .0 .1) ok (𝓣 .C) (𝓣 .Λ) (fmOf 𝓤 H (W .laws) 𝓣) k₁ k₂ (are .0))))
+      walk 𝓤 H A W mem run (κs .0) (qs .0) (a .0) (a .1 .0) (a .1 .1 .0) (are .1 .0 .1) (are .1 .1 .0 .1) ok
+      (𝓣 .C) (𝓣 .Λ) (fmOf 𝓤 H (W .laws) 𝓣) k₁ k₂ (are .0))))
 
 pub one-spec : {M : Type 1} → stated.statement M
 unfolding code.routine tablesOf

@@ -1,5 +1,6 @@
 -- `reader::past` meets its contract: a walk of its MIR, by hand. A struct is made anew of the slice that the one passed holds, and another number.
--- The struct is Copy: what it owns is had twice, one copy is kept whole for the exit, and the other, with the facts of the number in the place of at's, is what the result owns.
+-- The struct is Copy: what it owns is had twice, one copy is kept whole for the exit, and the other, with the facts of the number in
+-- the place of at's, is what the result owns.
 -- Assumes nothing.
 use mathlib.Core.Path.{refl}
 use Prim.Native.Nat.{ℕ, _+_, _<_, _^_}
@@ -66,7 +67,8 @@ module _ {M : Type 1} (𝓤 : URA M) (H : Heap 𝓤) (A : Atoms 𝓤) (W : Given
   exits =
       let α = namedLft 1 0 tt (κ, tt) in
       qed W (Token κ q ∷ ‵ (owns (B (κ, tt) ∷ usize ∷ []) (d, (n, tt)) vals) ∷ []) ∵
-      suffices ! _ (ends-at 𝓤 H A past.ended stayed (past.clauses 𝓤 H A mem run) W (((κ, tt), (q, tt), tt, (d, (n, tt)), vals), tt) (T′.lowered d′) d′ (tt, (tt, tt)) (tt, (tt, tt))) $
+      suffices ! _ (ends-at 𝓤 H A past.ended stayed (past.clauses 𝓤 H A mem run) W (((κ, tt), (q, tt), tt, (d, (n, tt)), vals), tt)
+      (T′.lowered d′) d′ (tt, (tt, tt)) (tt, (tt, tt))) $
       says ! (refl, refl) $ frame ! $ fsplit ! $ use1 W (‵ Own ⊛ ‵ Own) (LL.copy (T.the-type α) (T′.the-copy α) 𝓤 H A W .twice d (mach ∷ [])) $
       split ! $ move ! (0 ∷ 2 ∷ []) $ fjoin ! $ frame ! $
       -- [what the struct owns]: the number's facts take the place of at's
@@ -85,8 +87,7 @@ module _ {M : Type 1} (𝓤 : URA M) (H : Heap 𝓤) (A : Atoms 𝓤) (W : Given
         assigned ! (load ! (from ! (fld ! refl (stop !))) (look-in ! 8 (sub ! 1 refl (whole !)))) 2 refl (tt, wt .1 .1 .0) $
         assigns ! (bin ! (local ! 2 refl) (local ! 6 refl) (record { fits = ok })) (from ! (stop !)) (init ! 0 refl (tt, record { fits = ok })) $
         assigns ! (agg ! (both ! (local ! 4 refl) (local ! 0 refl))) (from ! (stop !)) (init ! 10 refl (tt, (wt .1 .0, (record { fits = ok }, tt)))) $
-        returns ! (look ! 10 refl) $ move ! (10 ∷ 11 ∷ []) $ gone ! $ move ! (8 ∷ 9 ∷ []) $ gone ! $ move ! (6 ∷ 7 ∷ []) $ gone ! $
-        move ! (4 ∷ 5 ∷ []) $ gone ! $ move ! (2 ∷ 3 ∷ []) $ gone ! $ gone ! $ free0 ! $ by ! exits))))))
+        returns ! (look ! 10 refl) $ gone ! 10 refl $ gone ! 8 refl $ gone ! 6 refl $ gone ! 4 refl $ gone ! 2 refl $ gone ! 0 refl $ free0 ! $ by ! exits))))))
 
 past-meets : {M : Type 1} (𝓤 : URA M) (H : Heap 𝓤) (A : Atoms 𝓤) → Given 𝓤 H A → (mem : Memory → SProp 𝓤) (run : Routine → Fun 𝓤) (𝓣 : Tables 𝓤 H)
     → Meets 𝓤 H A past.signature (WpFn 𝓤 H (𝓣 .C) (𝓣 .Λ) code.function) (past.spec 𝓤 H A mem run)

@@ -1,5 +1,6 @@
--- `reader::take` meets its contract: a walk of its MIR, by hand. The struct is taken apart, and `field_at` is called on the slice and the number. All that the proof knows of `field_at` is that it meets its contract.
--- The struct is Copy: what it owns is had twice, one copy is kept whole for the exit, and of the other what src owns goes to the callee, beside the lifetime's token, which comes back.
+-- `reader::take` meets its contract: a walk of its MIR, by hand. The struct is taken apart, and `field_at` is called on the slice and
+-- the number. All that the proof knows of `field_at` is that it meets its contract. The struct is Copy: what it owns is had twice, one
+-- copy is kept whole for the exit, and of the other what src owns goes to the callee, beside the lifetime's token, which comes back.
 -- Assumes nothing.
 use mathlib.Core.Path.{_≡_, refl}
 use Prim.Native.Nat.{ℕ, _<_, _^_}
@@ -114,7 +115,8 @@ module _ {M : Type 1} (𝓤 : URA M) (H : Heap 𝓤) (A : Atoms 𝓤) (W : Given
   exits : (r : ℕ) (u : Val) → r ≡ found → ent 𝓤 (⋆ 𝓤 H A (‵ (u32 .own r (u ∷ [])) ∷ Token κ q ∷ ‵ Own ∷ [])) (Post u)
   exits r u e =
       qed W (‵ (u32 .own r (u ∷ [])) ∷ Token κ q ∷ ‵ Own ∷ []) ∵
-      suffices ! _ (ends-at 𝓤 H A take.ended stayed (take.clauses 𝓤 H A mem run) W (((κ, tt), (q, tt), tt, (d, (n, tt)), vals), tt) u r (tt, (tt, tt)) (tt, (tt, tt))) $
+      suffices ! _ (ends-at 𝓤 H A take.ended stayed (take.clauses 𝓤 H A mem run) W (((κ, tt), (q, tt), tt, (d, (n, tt)), vals), tt)
+      u r (tt, (tt, tt)) (tt, (tt, tt))) $
       says ! e $ move ! (1 ∷ []) $ frame ! $ nothing ! $ number ! n n-fits $ move ! (2 ∷ 0 ∷ []) $ fjoin ! $ frame ! $ done !
 
   module _ (C : Calls 𝓤 H) (Λ : Loops 𝓤 H) (fm : FmC 𝓤 H (W .laws) C) (known : Triple 𝓤 (C #field·field-at) (StepAt 𝓤 H A mem run)) where
@@ -137,8 +139,7 @@ module _ {M : Type 1} (𝓤 : URA M) (H : Heap 𝓤) (A : Atoms 𝓤) (W : Given
         -- [the result; the token; what the struct owns; _4; …; _3; …; _2; …; _1; …; room for _0; …]
         peeks ! u32 (Is u32) (shows 𝓤 H A u32) r (u ∷ []) (λ is.
         landed ! 11 refl (uint-lawful 𝓤 H A W w32 .typed r _ is .0) $ returns ! (look ! 11 refl) $
-        move ! (11 ∷ 12 ∷ []) $ gone ! $ move ! (9 ∷ 10 ∷ []) $ gone ! $ move ! (7 ∷ 8 ∷ []) $ gone ! $ move ! (5 ∷ 6 ∷ []) $ gone ! $
-        move ! (3 ∷ 4 ∷ []) $ gone ! $ free0 ! $ by ! (exits r u e)))))))))
+        gone ! 11 refl $ gone ! 9 refl $ gone ! 7 refl $ gone ! 5 refl $ gone ! 3 refl $ free0 ! $ by ! (exits r u e)))))))))
 
 take-meets : {M : Type 1} (𝓤 : URA M) (H : Heap 𝓤) (A : Atoms 𝓤) (W : Given 𝓤 H A) (mem : Memory → SProp 𝓤) (run : Routine → Fun 𝓤) (𝓣 : Tables 𝓤 H)
     → Triple 𝓤 (𝓣 .C #field·field-at) (StepAt 𝓤 H A mem run) → Meets 𝓤 H A take.signature (WpFn 𝓤 H (𝓣 .C) (𝓣 .Λ) code.function) (take.spec 𝓤 H A mem run)

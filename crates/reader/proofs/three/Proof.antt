@@ -1,4 +1,5 @@
--- `reader::three` meets its contract: a walk of its MIR, by hand. A `Reader` is made in a local, a field is taken at its bit, and a reader behind that field is made, twice. Assumes nothing.
+-- `reader::three` meets its contract: a walk of its MIR, by hand. A `Reader` is made in a local, a field is taken at
+-- its bit, and a reader behind that field is made, twice. Assumes nothing.
 use mathlib.Core.Path.{_≡_, refl}
 use Prim.Native.Nat.{ℕ, _+_, _<_, _^_}
 use mathlib.Core.List.{List, [], _∷_}
@@ -36,7 +37,7 @@ use denote.Exit.{yes}
 use denote.Triple.Clauses.{ensured, lasts}
 use Rattle.field.specs.Bits.{fieldAt}
 use Rattle.field.specs.Fields.{Inside}
-use Rattle.reader.specs.Three.{threeAt}
+use Rattle.reader.specs.Fields.{threeAt}
 use Rattle.reader.specs.declared.Triple.{Triple}
 use Rattle.reader.proofs.Triple as S
 use Rattle.reader.proofs.Triple.Laws as S′
@@ -109,18 +110,22 @@ module _ {M : Type 1} (𝓤 : URA M) (H : Heap 𝓤) (A : Atoms 𝓤) (W : Given
       move ! (2 ∷ 0 ∷ []) $ fjoin ! $ frame ! $ done !
 
   -- what is taken is what is asked
-  right : (x y z : ℕ) (t : Triple) → x ≡ fieldAt (now s) n a → y ≡ fieldAt (now s) (n + a) b → z ≡ fieldAt (now s) (n + a + b) c → t ≡ made x y z → t ≡ threeAt (now s) n a b c
+  right : (x y z : ℕ) (t : Triple) → x ≡ fieldAt (now s) n a → y ≡ fieldAt (now s) (n + a) b → z ≡ fieldAt (now s) (n + a + b) c
+      → t ≡ made x y z → t ≡ threeAt (now s) n a b c
   right x y z t p q r e = rw (e, p, q, r)
 
   module _ (C : Calls 𝓤 H) (Λ : Loops 𝓤 H) (fm : FmC 𝓤 H (W .laws) C) (known-from : Known 𝓤 (C #reader·from-bit) (From 𝓤 H A mem run))
-      (known-take : Known 𝓤 (C #reader·take) (Take 𝓤 H A mem run)) (known-past : Known 𝓤 (C #reader·past) (Past 𝓤 H A mem run)) (known-of : Known 𝓤 (C #reader·triple-of) (Of 𝓤 H A mem run)) where
+      (known-take : Known 𝓤 (C #reader·take) (Take 𝓤 H A mem run)) (known-past : Known 𝓤 (C #reader·past) (Past 𝓤 H A mem run))
+      (known-of : Known 𝓤 (C #reader·triple-of) (Of 𝓤 H A mem run)) where
     walk : Is (ShrSlice (named 0) κ u8) s (sliceOf s ∷ [])
-        → ent 𝓤 (onEntry 𝓤 H A three.signature (κ, tt) (q, tt) args vals) (WpFn 𝓤 H C Λ code.function (sliceOf s ∷ vint w64 n ∷ vint w64 a ∷ vint w64 b ∷ vint w64 c ∷ []) Post)
+        → ent 𝓤 (onEntry 𝓤 H A three.signature (κ, tt) (q, tt) args vals)
+        (WpFn 𝓤 H C Λ code.function (sliceOf s ∷ vint w64 n ∷ vint w64 a ∷ vint w64 b ∷ vint w64 c ∷ []) Post)
     walk p =
         qed W (Token κ q ∷ ‵ (owns (ShrSlice (named 0) κ u8 ∷ usize ∷ usize ∷ usize ∷ usize ∷ []) args vals) ∷ []) ∵
         enter ! C Λ code.function (sliceOf s ∷ vint w64 n ∷ vint w64 a ∷ vint w64 b ∷ vint w64 c ∷ []) _ $
         alloc1 ! (λ l₀. alloc1 ! (λ l₁. alloc1 ! (λ l₂. alloc1 ! (λ l₃. alloc1 ! (λ l₄. alloc1 ! (λ l₅. alloc1 ! (λ l₆. alloc1 ! (λ l₇. alloc1 ! (λ l₈.
-        alloc1 ! (λ l₉. alloc1 ! (λ l₁₀. alloc1 ! (λ l₁₁. alloc1 ! (λ l₁₂. alloc1 ! (λ l₁₃. alloc1 ! (λ l₁₄. alloc1 ! (λ l₁₅. alloc1 ! (λ l₁₆. alloc0 ! $ params1 ! $
+        alloc1 ! (λ l₉. alloc1 ! (λ l₁₀. alloc1 ! (λ l₁₁. alloc1 ! (λ l₁₂. alloc1 ! (λ l₁₃. alloc1 ! (λ l₁₄. alloc1 ! (λ l₁₅. alloc1 ! (λ l₁₆.
+        alloc0 ! $ params1 ! $
         pass1 ! (init ! 30 refl (shr-slice-lawful 𝓤 H A W (named 0) κ u8 .typed s (sliceOf s ∷ []) p .0)) $
         pass1 ! (init ! 28 refl (tt, record { fits = n-fits })) $ pass1 ! (init ! 26 refl (tt, record { fits = a-fits })) $
         pass1 ! (init ! 24 refl (tt, record { fits = b-fits })) $ pass1 ! (init ! 22 refl (tt, record { fits = c-fits })) $ pass0 ! $
@@ -145,15 +150,17 @@ module _ {M : Type 1} (𝓤 : URA M) (H : Heap 𝓤) (A : Atoms 𝓤) (W : Given
         -- [the third; the token; the second; the first; what s owns; _16; …]
         landed ! 15 refl is₃ $ move ! (0 ∷ 2 ∷ 3 ∷ []) $ use3 W (raw (Of 𝓤 H A mem run .pre (to-of y₁ y₂ y₃ x₁ x₂ x₃))) (ask-of y₁ y₂ y₃ x₁ x₂ x₃) $
         calls-at ! fm (Of 𝓤 H A mem run) known-of (to-of y₁ y₂ y₃ x₁ x₂ x₃) (and-then ! (local ! 21 refl) (both ! (local ! 17 refl) (local ! 13 refl))) (λ w.
-        use1 W (later (some (λ (t : Triple). (‵ ftrue ⊛ ‵ (S.the-row .own t (w ∷ []))) ⊛ raw (ensured 𝓤 H A of.ended (of.clauses 𝓤 H A mem run) tt (y₁, (y₂, (y₃, tt))) tt t)))) (id⊢ 𝓤 _) $
-        await ! tt $ pick ! (λ t. split ! $ move ! (1 ∷ []) $ use1 W (raw (fact 𝓤 (t ≡ made y₁ y₂ y₃))) (said-of y₁ y₂ y₃ t) $ heard ! (t ≡ made y₁ y₂ y₃) (λ e. split ! $ drop ! $
+        use1 W (later (some (λ (t : Triple).
+        (‵ ftrue ⊛ ‵ (S.the-row .own t (w ∷ []))) ⊛ raw (ensured 𝓤 H A of.ended (of.clauses 𝓤 H A mem run) tt (y₁, (y₂, (y₃, tt))) tt t)))) (id⊢ 𝓤 _) $
+        await ! tt $ pick ! (λ t. split ! $ move ! (1 ∷ []) $ use1 W (raw (fact 𝓤 (t ≡ made y₁ y₂ y₃))) (said-of y₁ y₂ y₃ t) $
+        heard ! (t ≡ made y₁ y₂ y₃) (λ e. split ! $ drop ! $
         -- [the result; the token; what s owns; _16; …]
         peeks ! S.the-row (Is S.the-row) (shows 𝓤 H A S.the-row) t (w ∷ []) (λ is.
         land ! (from ! (stop !)) (init ! 35 refl (LL.lawful S.the-type S′.the-laws 𝓤 H A W .typed t _ is .0)) $ returns ! (look ! 35 refl) $
-        move ! (35 ∷ 36 ∷ []) $ gone ! $ move ! (33 ∷ 34 ∷ []) $ gone ! $ move ! (31 ∷ 32 ∷ []) $ gone ! $ move ! (29 ∷ 30 ∷ []) $ gone ! $ move ! (27 ∷ 28 ∷ []) $ gone ! $
-        move ! (25 ∷ 26 ∷ []) $ gone ! $ move ! (23 ∷ 24 ∷ []) $ gone ! $ move ! (21 ∷ 22 ∷ []) $ gone ! $ move ! (19 ∷ 20 ∷ []) $ gone ! $ move ! (17 ∷ 18 ∷ []) $ gone ! $
-        move ! (15 ∷ 16 ∷ []) $ gone ! $ move ! (13 ∷ 14 ∷ []) $ gone ! $ move ! (11 ∷ 12 ∷ []) $ gone ! $ move ! (9 ∷ 10 ∷ []) $ gone ! $ move ! (7 ∷ 8 ∷ []) $ gone ! $
-        move ! (5 ∷ 6 ∷ []) $ gone ! $ move ! (3 ∷ 4 ∷ []) $ gone ! $ free0 ! $ by ! (exits t w (right y₁ y₂ y₃ t e₁ e₂ e₃ e)))))))))))))))))))))))))))))
+        gone ! 35 refl $ gone ! 33 refl $ gone ! 31 refl $ gone ! 29 refl $ gone ! 27 refl $ gone ! 25 refl $ gone ! 23 refl $
+        gone ! 21 refl $ gone ! 19 refl $ gone ! 17 refl $ gone ! 15 refl $ gone ! 13 refl $ gone ! 11 refl $ gone ! 9 refl $
+        gone ! 7 refl $ gone ! 5 refl $ gone ! 3 refl $ free0 ! $
+        by ! (exits t w (right y₁ y₂ y₃ t e₁ e₂ e₃ e)))))))))))))))))))))))))))))
 
 module _ {M : Type 1} (𝓤 : URA M) (H : Heap 𝓤) (A : Atoms 𝓤) (W : Given 𝓤 H A) (mem : Memory → SProp 𝓤) (run : Routine → Fun 𝓤) where
   three-meets : (𝓣 : Tables 𝓤 H) → Known 𝓤 (𝓣 .C #reader·from-bit) (From 𝓤 H A mem run) → Known 𝓤 (𝓣 .C #reader·take) (Take 𝓤 H A mem run)
@@ -167,7 +174,8 @@ module _ {M : Type 1} (𝓤 : URA M) (H : Heap 𝓤) (A : Atoms 𝓤) (W : Given
       (λ κs. (slice-vals, (uint-vals w64, (uint-vals w64, (uint-vals w64, (uint-vals w64, tt))))))
       (λ κs. (shr-slice-tells (named 0) (κs .0) u8, (uint-tells w64, (uint-tells w64, (uint-tells w64, (uint-tells w64, tt))))))
       (λ κs qs bounds a g are. needs 𝓤 _ _ (λ ok.
-      walk 𝓤 H A W mem run (κs .0) (qs .0) (a .0) (a .1 .0) (a .1 .1 .0) (a .1 .1 .1 .0) (a .1 .1 .1 .1 .0) (are .1 .0 .1) (are .1 .1 .0 .1) (are .1 .1 .1 .0 .1)
+      walk 𝓤 H A W mem run (κs .0) (qs .0) (a .0) (a .1 .0) (a .1 .1 .0) (a .1 .1 .1 .0) (a .1 .1 .1 .1 .0)
+      (are .1 .0 .1) (are .1 .1 .0 .1) (are .1 .1 .1 .0 .1)
       (are .1 .1 .1 .1 .0 .1) ok (𝓣 .C) (𝓣 .Λ) (fmOf 𝓤 H (W .laws) 𝓣) k₁ k₂ k₃ k₄ (are .0))))
 
 pub three-spec : {M : Type 1} → stated.statement M

@@ -1,4 +1,4 @@
--- Three fields in a row. Every field of a sheet is taken so; a field of no bits is 0. Assumes nothing.
+-- Three fields in a row. Assumes nothing.
 use Prim.Native.Nat.{ℕ, _+_}
 use mathlib.Core.List.{List}
 use Rattle.field.specs.Bits.{fieldAt}
