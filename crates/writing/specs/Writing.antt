@@ -10,12 +10,13 @@ use Rattle.block.specs.Block.{sizeOf, fieldsOf}
 use Rattle.plan.specs.declared.Plan.{Plan}
 use Rattle.writing.specs.declared.Written.{Written}
 use Rattle.plan.specs.Tests.{Test, test, firstBroken}
+use Rattle.plan.specs.Sheet.{headBytes, edition, editionBits, componentBits, lengthBits, entryBits}
 use Rattle.plan.specs.Plan.{componentsOf, codesOf, cleanedPlan}
 use Rattle.plan.specs.Rules.{rule3, rule4, rules}
 
 -- The byte behind the last block: head, then the blocks.
 abbrev pub endOf : Plan → ℕ
-endOf p = 2 + sumBy (λ c. sizeOf (c .count)) (componentsOf p)
+endOf p = headBytes + sumBy (λ c. sizeOf (c .count)) (componentsOf p)
 
 -- The bytes of a plan's sheet: behind the blocks, a byte of structure for each component.
 unfoldable pub lengthOf : Plan → ℕ
@@ -23,7 +24,7 @@ lengthOf p = endOf p + p .count
 
 -- The head as fields: edition 1, n, the length.
 abbrev pub headFields : ℕ → ℕ → List Field
-headFields n len = bits 4 1 ∷ bits 4 n ∷ bits 8 len ∷ []
+headFields n len = bits editionBits edition ∷ bits componentBits n ∷ bits lengthBits len ∷ []
 
 -- The blocks.
 abbrev pub blockFields : Plan → List Field
@@ -31,7 +32,7 @@ blockFields p = forEach (componentsOf p) fieldsOf
 
 -- The structure: the codes, then four zero bits.
 abbrev pub structureFields : Plan → List Field
-structureFields p = map (bits 4) (codesOf p) ++ (bits 4 0 ∷ [])
+structureFields p = map (bits entryBits) (codesOf p) ++ (bits entryBits 0 ∷ [])
 
 -- The sheet of a plan, as fields in a row.
 unfoldable pub sheetFields : Plan → List Field
