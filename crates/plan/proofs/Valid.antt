@@ -40,7 +40,7 @@ sized p e₃ e₄ =
           within 1 mostHeld ((componentAt p i) .count) (any-below (λ j. badCount (componentAt p j)) 0 (p .count) i f (omega arith) (omega arith)) .1;
     }
 
--- Rule 7, of an interval.
+-- What rule 7 leaves of an interval.
 module _ (c : Component) (j : ℕ) (e : badInterval c j ≡ false) where
   alone : (ltb (focalAt c j .high) (focalAt c j .low) || ltb topSpeed (focalAt c j .high) ≡ false) × (eqb (focalAt c j .weight) 0 ≡ false)
   alone = neither _ _ (neither (badAlone (focalAt c j)) _ e .0)

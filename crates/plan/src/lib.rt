@@ -212,7 +212,7 @@ pub fn either_flaws(a: Flaws, b: Flaws) -> Flaws
     }
 }
 
-// By anyOf component of a plan.
+// The flaws of the components of a plan.
 pub fn plan_flaws(p: Plan) -> Flaws
     requires { ⌜ Sized p ⌝ }
     ensures { λ r. ⌜ r ≡ flawsIn (componentsOf p) ⌝ }

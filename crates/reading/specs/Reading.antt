@@ -25,11 +25,11 @@ use Rattle.reading.specs.declared.Reading.{Reading}
 abbrev pub editionIn : List ℕ → ℕ
 editionIn s = fieldAt s 0 editionBits
 
--- The component count n there.
+-- The component count n in the head.
 abbrev pub componentCount : List ℕ → ℕ
 componentCount s = fieldAt s editionBits componentBits
 
--- The sheet length in bytes there: the length byte.
+-- The sheet length in bytes in the head: the length byte.
 abbrev pub lengthIn : List ℕ → ℕ
 lengthIn s = fieldAt s (editionBits + componentBits) lengthBits
 

@@ -26,11 +26,11 @@ lengthOf p = endOf p + p .count
 abbrev pub headFields : ℕ → ℕ → List Field
 headFields n len = bits editionBits edition ∷ bits componentBits n ∷ bits lengthBits len ∷ []
 
--- The blocks.
+-- The blocks as fields.
 abbrev pub blockFields : Plan → List Field
 blockFields p = forEach (componentsOf p) fieldsOf
 
--- The structure: the codes, then four zero bits.
+-- The structure as fields: the codes, then four zero bits.
 abbrev pub structureFields : Plan → List Field
 structureFields p = map (bits entryBits) (codesOf p) ++ (bits entryBits 0 ∷ [])
 
@@ -38,7 +38,7 @@ structureFields p = map (bits entryBits) (codesOf p) ++ (bits entryBits 0 ∷ []
 unfoldable pub sheetFields : Plan → List Field
 sheetFields p = headFields (p .count) (lengthOf p) ++ (blockFields p ++ structureFields p)
 
--- 3 and 4 (only k) of a plan.
+-- The tests 3 and 4 (only k) of a plan.
 abbrev pub sizeTests : Plan → List Test
 sizeTests p = test 3 (rule3 (p .count)) ∷ test 4 (rule4 (componentsOf p)) ∷ []
 
@@ -46,7 +46,7 @@ sizeTests p = test 3 (rule3 (p .count)) ∷ test 4 (rule4 (componentsOf p)) ∷ 
 abbrev pub planTests : Plan → ℕ → List Test
 planTests p room = sizeTests p ++ (rules p ++ (test 15 (ltb room (lengthOf p)) ∷ []))
 
--- The least of them that applies to a plan and a buffer of room bytes, or 0.
+-- The least of the writer's numbers that applies to a plan and a buffer of room bytes, or 0.
 abbrev pub numberOf : Plan → ℕ → ℕ
 numberOf p room = firstBroken (planTests p room)
 
