@@ -27,6 +27,7 @@ back s t k b h =
 
 -- ---- numbers in bytes
 
+-- seven bytes hold less than 2 ^ 56, and a number grows by a byte
 pub pow7 : (i : ℕ) → i ≤ 7 → 256 ^ i ≤ 72057594037927936
 pow7 i h = pow-le-pow-right (omega arith) h
 
@@ -51,7 +52,7 @@ bigEndian-next m v = rw add-one
 pub shifted-out : (v m : ℕ) → v / 256 ^ m / 256 ≡ v / 256 ^ (m + 1)
 shifted-out v m = rw (add-one, pow-suc) (div-div-eq-div-mul v (256 ^ m) 256)
 
--- s with the last n - i of n bytes from `at` on bigEndian
+-- s with the last n - i of the n bytes of v put in from `at` on
 abbrev pub spelt : List ℕ → ℕ → ℕ → ℕ → ℕ → List ℕ
 spelt s at n v i = take (at + i) s ++ (bigEndian (n - i) v ++ drop (at + n) s)
 
@@ -67,6 +68,8 @@ spelt-more s at n v i h k =
     rw (e, e2, bigEndian-next) (back s (bigEndian (n - (i + 1)) v ++ drop (at + n) s) (at + i) (v / 256 ^ (n - (i + 1)) % 256) (omega arith))
 
 -- ---- numbers, there and back
+
+-- parts of bytes are bytes
 pub bytes-drop : (k : ℕ) (s : List ℕ) → Bytes s → Bytes (drop k s)
 bytes-drop k s h i = rw getD-drop (h (k + i))
 

@@ -6,7 +6,6 @@ use native.Mathlib.Numerals.{add-one}
 use native.Mathlib.Omega.{arith}
 use borrow.Author.Needs.{needs}
 use denote.Ref.{now}
-use lib.Dec.{lit≤}
 use lib.ListN.{length}
 use Rattle.field.specs.Fields.{putAll}
 use Rattle.field.proofs.Fields.{length-putAll, putAll-append}

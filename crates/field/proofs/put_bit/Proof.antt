@@ -31,7 +31,7 @@ stored-lt : (c : tie.After-wide) → withBit (c .wide .result) (c .before .befor
 stored-lt c =
     let a = c .before .before .before .before .args in
     rw (c .before .before .pow2 .ensures)
-    (put-lt (c .wide .result) (7 - a .j % 8) (a .b) (omega arith) (omega arith) (omega (arith, c .wide .ensures, c .before .slice-known2 .given (a .j / 8))))
+    (put-lt (c .wide .result) (7 - a .j % 8) (a .b) (omega arith) (omega arith) (c .wide .ensures .1))
 
 div-dst : tie.Need-div-dst
 div-dst c = omega (arith, c .before .before .pow2 .ensures, pow-pos (7 - c .before .before .before .before .args .j % 8))
