@@ -305,7 +305,7 @@ fn bad_joins(entries: [u8; theory::MOST_ENTRIES], n: usize) -> bool
 }
 
 // The number of a test that is broken, or that of the tests behind it.
-fn first(number: u8, broken: bool, rest: u8) -> u8
+pub fn first(number: u8, broken: bool, rest: u8) -> u8
     ensures { λ r. ⌜ r ≡ cond broken number rest ⌝ }
 {
     if broken { number } else { rest }

@@ -5,7 +5,7 @@ ghost use lib.ListN.{length};
 ghost use Rattle.theory.specs.Limits.{mostComponents, mostEntries};
 ghost use Rattle.plan.specs.Tests.{firstBroken};
 ghost use Rattle.plan.specs.Plan.{zeroPlan};
-ghost use Rattle.reading.specs.Reading.{entriesAt, noBlocks, blocksIn, headIn, layoutTests, Told, readOf};
+ghost use Rattle.reading.specs.Reading.{entriesAt, noBlocks, blocksIn, head, headIn, layoutTests, Told, readOf};
 use plan::Flaws;
 use plan::Plan;
 use theory::Component;
@@ -32,41 +32,34 @@ pub struct Blocks {
     pub end: usize,
 }
 
+fn head_of(number: u8, count: usize) -> Head
+    ensures { λ r. ⌜ r ≡ head number count ⌝ }
+{
+    if number != 0 {
+        return Head {
+            number: number,
+            count: 0,
+        };
+    }
+    Head {
+        number: 0,
+        count: count,
+    }
+}
+
 // Numbers 1 to 3 of a sheet, and its component count.
 fn read_head(sheet: &[u8]) -> Head
     ensures { λ r. ⌜ r ≡ headIn (now (sheet .entry)) ⌝ }
 {
     let len = sheet.len();
     if len < 2 {
-        return Head {
-            number: 1,
-            count: 0,
-        };
+        return head_of(1, 0);
     }
     let head = reader::three(sheet, 0, 4, 4, 8);
-    if head.third as usize != len {
-        return Head {
-            number: 1,
-            count: 0,
-        };
-    }
-    if head.first != 1 {
-        return Head {
-            number: 2,
-            count: 0,
-        };
-    }
     let n = head.second as usize;
-    if plan::is_outside(1, theory::MOST_COMPONENTS, n) {
-        return Head {
-            number: 3,
-            count: 0,
-        };
-    }
-    Head {
-        number: 0,
-        count: n,
-    }
+    let three = plan::first(3, plan::is_outside(1, theory::MOST_COMPONENTS, n), 0);
+    let two = plan::first(2, head.first != 1, three);
+    head_of(plan::first(1, head.third as usize != len, two), n)
 }
 
 fn no_blocks() -> Blocks
@@ -136,14 +129,9 @@ fn layout_number(sheet: &[u8], n: usize, cut: bool, nonzero: bool, end: usize) -
     if end + n != sheet.len() {
         return 4;
     }
-    if nonzero {
-        return 5;
-    }
     let m = plan::entry_count(n);
-    if reader::one(sheet, 8 * end + 4 * m, 4) != 0 {
-        return 5;
-    }
-    0
+    let last = reader::one(sheet, 8 * end + 4 * m, 4);
+    plan::first(5, plan::either(nonzero, last != 0), 0)
 }
 
 fn refuse(number: u8) -> Reading

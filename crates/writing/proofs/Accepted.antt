@@ -1,19 +1,20 @@
 -- When the writer accepts a plan, and what it then leaves. Assumes nothing.
 use borrow.Author.Tests.{ltb-false, le-ltb}
 use mathlib.Core.Path.{_≡_, refl, ap, _∙_}
+use mathlib.Core.Logic.{_↔_}
 use mathlib.Core.Bool.{false}
 use mathlib.Core.List.{List, [], _∷_}
-use Prim.Native.Nat.{ℕ, zero, suc, _≤_}
+use Prim.Native.Nat.{ℕ, zero, suc, _≤_, _<_}
 use lib.Dec.{ltb}
 use lib.ListN.{length}
 use Rattle.theory.specs.Sums.{Every, none, more}
 use Rattle.field.specs.Fields.{putAll}
 use Rattle.plan.specs.declared.Plan.{Plan}
-use Rattle.plan.specs.Tests.{test, firstBroken, Unbroken}
+use Rattle.plan.specs.Tests.{test, firstBroken, Unbroken, First}
 use Rattle.plan.specs.Plan.{componentsOf}
 use Rattle.plan.specs.Rules.{rule3, rule4, rules}
 use Rattle.writing.specs.Writing.{numberOf, lengthOf, sheetFields, planTests, written, writtenOf, bytesBy, bytesAfter}
-use Rattle.plan.proofs.Numbers.{no-number, none-broken, first-none}
+use Rattle.plan.proofs.Numbers.{no-number, none-broken, accepted-by, refused-by, first-none}
 
 pub record Accepted (p : Plan) (room : ℕ) : Type 0 where
   pub three : rule3 (p .count) ≡ false
@@ -46,6 +47,13 @@ module _ (p : Plan) (room : ℕ) where
       go : (k : ℕ) → (written k (lengthOf p)) .number ≡ k
       go zero = refl
       go (suc k) = refl
+
+  -- The tests decide: 0 exactly when none is broken, and otherwise the number of the first that is.
+  pub written-accepted : ((writtenOf p room) .number ≡ 0) ↔ Every Unbroken (planTests p room)
+  written-accepted = rw written-number (accepted-by 15 (planTests p room) refl)
+
+  pub written-refused-by : (k : ℕ) → 0 < k → ((writtenOf p room) .number ≡ k) ↔ First (planTests p room) k
+  written-refused-by k h = rw written-number (refused-by (planTests p room) k h)
 
   pub written-length : numberOf p room ≡ 0 → writtenOf p room ≡ record { number = 0; length = lengthOf p }
   unfolding writtenOf

@@ -64,14 +64,19 @@ module _ (t : List ℕ) (p : Plan) (z : Sized p) (k : Valid p) (h : Holds t 0 (s
       rw w at (holds-right t 16 (blockFields p) (structureFields p) body-held)
 
   -- Where block i starts, and what is held from there on.
-  abbrev At : ℕ → Type 0
-  At i = (startOf t i + bytesLeft p i ≡ endOf p) × Holds t (8 * startOf t i) (fieldsLeft p i)
+  abbrev Reached : ℕ → Type 0
+  Reached i = (startOf t i + bytesLeft p i ≡ endOf p) × Holds t (8 * startOf t i) (fieldsLeft p i)
 
-  fields-split : (i : ℕ) → i < p .count → At i → Holds t (8 * startOf t i) (fieldsOf (componentAt p i) ++ fieldsLeft p (i + 1))
+  fields-split : (i : ℕ) → i < p .count → Reached i → Holds t (8 * startOf t i) (fieldsOf (componentAt p i) ++ fieldsLeft p (i + 1))
   fields-split i l a = rw (from-next i (p .count) l) at (a .1)
 
-  block-read : (i : ℕ) → i < p .count → At i
-      → (countIn (blockAt t i) ≡ (componentAt p i) .count) × (cutShort (blockAt t i) ≡ false) × (badZeroBits (blockAt t i) ≡ false) × (componentIn (blockAt t i) ≡ cleaned (componentAt p i))
+  -- What block i reads as.
+  abbrev Block : ℕ → Type 0
+  Block i =
+      (countIn (blockAt t i) ≡ (componentAt p i) .count) × (cutShort (blockAt t i) ≡ false) × (badZeroBits (blockAt t i) ≡ false)
+      × (componentIn (blockAt t i) ≡ cleaned (componentAt p i))
+
+  block-read : (i : ℕ) → i < p .count → Reached i → Block i
   unfolding lengthOf
   block-read i l a =
       let c = componentAt p i in
@@ -80,11 +85,11 @@ module _ (t : List ℕ) (p : Plan) (z : Sized p) (k : Valid p) (h : Holds t 0 (s
       read-written (blockAt t i) c (holds-drop t (startOf t i) 0 (fieldsOf c) f) (g .0) (g .1)
       (rw length-drop (omega (arith, a .0, bytes-next p i l, len)))
 
-  at-block : (i : ℕ) → i ≤ p .count → At i
+  reached : (i : ℕ) → i ≤ p .count → Reached i
   unfolding startOf
-  at-block zero l = (bytes-start p, rw (fields-start p) (holds-left t 16 (blockFields p) (structureFields p) body-held))
-  at-block (suc i) l =
-      let a = at-block i (omega arith) in
+  reached zero l = (bytes-start p, rw (fields-start p) (holds-left t 16 (blockFields p) (structureFields p) body-held))
+  reached (suc i) l =
+      let a = reached i (omega arith) in
       let b = block-read i l a in
       let c = componentAt p i in
       let e : 8 * (startOf t i + sizeOf (c .count)) ≡ 8 * startOf t i + widthOf (fieldsOf c) = rw (width-fieldsOf c) (omega arith) in (
@@ -92,12 +97,11 @@ module _ (t : List ℕ) (p : Plan) (z : Sized p) (k : Valid p) (h : Holds t 0 (s
         rw (b .0, e, ← add-one i) (holds-right t (8 * startOf t i) (fieldsOf c) (fieldsLeft p (i + 1)) (fields-split i l a)),
       )
 
-  block-is : (i : ℕ) → i < p .count
-      → (countIn (blockAt t i) ≡ (componentAt p i) .count) × (cutShort (blockAt t i) ≡ false) × (badZeroBits (blockAt t i) ≡ false) × (componentIn (blockAt t i) ≡ cleaned (componentAt p i))
-  block-is i l = block-read i l (at-block i (omega arith))
+  block-is : (i : ℕ) → i < p .count → Block i
+  block-is i l = block-read i l (reached i (omega arith))
 
   ends : startOf t (p .count) ≡ endOf p
-  ends = omega (arith, at-block (p .count) (omega arith) .0, bytes-end p (p .count) (omega arith))
+  ends = omega (arith, reached (p .count) (omega arith) .0, bytes-end p (p .count) (omega arith))
 
   codes-are : Holds t (8 * startOf t (p .count)) (map (bits 4) (codesOf p))
   codes-are = rw ends (holds-left t (8 * endOf p) (map (bits 4) (codesOf p)) (bits 4 0 ∷ []) structure-held)

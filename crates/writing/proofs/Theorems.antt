@@ -22,7 +22,7 @@ use Rattle.writing.proofs.Accepted.{number-accepts, accepts-number, wri
 use Rattle.writing.proofs.Fits.{sheet-fits}
 use Rattle.plan.specs.Valid.{Valid}
 use Rattle.plan.proofs.Numbers.{none-broken}
-use Rattle.plan.proofs.Valid.{sized, valid}
+use Rattle.plan.proofs.Valid.{counted, sized, valid}
 use Rattle.writing.proofs.ReadBack.{reads-back}
 use Rattle.writing.proofs.Sizes.{sizes, width-blocks, width-of-codes}
 use Rattle.writing.proofs.WriteBack.{counts-kept, count-kept, length-at, sheet-held}
@@ -64,7 +64,8 @@ module _ (p : Plan) (room : ℕ) (e : (writtenOf p room) .number ≡ 0) where
   written-longest = omega (arith, sizes p sized-plan)
 
 -- A refused plan leaves the buffer, an accepted one the bytes behind the sheet.
-pub nothing-written : (p : Plan) (s : List ℕ) (k : ℕ) → 0 < k → (writtenOf p (length s)) .number ≡ k → ((writtenOf p (length s)) .length ≡ 0) × (bytesAfter p s ≡ s)
+pub nothing-written : (p : Plan) (s : List ℕ) (k : ℕ) → 0 < k → (writtenOf p (length s)) .number ≡ k
+    → ((writtenOf p (length s)) .length ≡ 0) × (bytesAfter p s ≡ s)
 nothing-written p s k h e =
     let n : numberOf p (length s) ≡ k = sym (written-number p (length s)) ∙ e in
     (sym (ap (λ (w : Written). w .length) (written-refused p (length s) k (λ z. omega arith) (sym n))), refused-stays p s (λ z. omega arith))
@@ -92,7 +93,7 @@ written-is-read p s e =
     let l : length t ≡ lengthOf p = length-take-le (lengthOf p) b (omega (arith, lb, a .fits)) in
     rw (written-sheet p (length s) e, accepted-bytes p s (sym (written-number p (length s)) ∙ e)) (reads-back t p z k g l (a .others))
 
--- And so does the plan of an accepted sheet.
+-- The plan of an accepted sheet meets the premises of the drive calculation.
 pub read-valid : (s : List ℕ) → (readOf s) .number ≡ 0 → Valid ((readOf s) .plan)
 read-valid s e =
     let a = sound s e in
@@ -115,23 +116,24 @@ read-is-written s t B C e h =
     let fs = sheetFields p in
     let u = putAll t 0 fs in
     let v = s ++ drop (length s) t in
-    let w : widthOf fs ≡ 8 * length s = width-sheet p (valid p (count-kept s a) (counts-kept s a) (none-broken (a .others)) .least) ∙ ap (λ (x : ℕ). 8 * x) len in
+    let w : widthOf fs ≡ 8 * length s = width-sheet p (counted (p .count) (count-kept s a) .least) ∙ ap (λ (x : ℕ). 8 * x) len in
     let held : Holds s 0 fs = sheet-held s a in
     let put : Holds u 0 fs = putAll-holds t 0 fs (holds-fitting s 0 fs held) (omega (arith, w)) in
     let lu : length u ≡ length t = length-putAll t 0 fs in
     let lv : length v ≡ length t = rw (length-append, length-drop) (omega arith) in
-    let front : (j : ℕ) → j < 8 * length s → bit u j ≡ bit v j = λ j l.
+    let in-sheet : (j : ℕ) → j < 8 * length s → bit u j ≡ bit v j = λ j l.
     holds-bits u s 0 fs put held j (omega arith) (omega (arith, w)) ∙ bit-same s v j (sym (List·getD-append s (drop (length s) t) 0 (j / 8) (omega arith))) in
-    let behind : (j : ℕ) → 8 * length s ≤ j → bit u j ≡ bit v j = λ j l.
-    putAll-other t 0 fs j (omega (arith, w)) (λ x y. omega (arith, w)) ∙ bit-same t v j (behind-at s t (j / 8) (omega arith)) in
+    let behind-sheet : (j : ℕ) → 8 * length s ≤ j → bit u j ≡ bit v j = λ j l.
+    putAll-other t 0 fs j (omega (arith, w)) (λ x y. omega (arith, w)) ∙ bit-same t v j (getD-behind s t (j / 8) (omega arith)) in
     rw (decided s .plan-is e) (
       written-length p (length t) n ∙ rw len,
-      accepted-bytes p t n ∙ bits-ext u v (lu ∙ sym lv) (putAll-bytes t 0 fs (omega (arith, w)) C) (bytes-append s (drop (length s) t) B (λ i. rw getD-drop (C (length s + i))))
-          (λ j l. elim (decLt j (8 * length s)) [ yes x ↦ front j x | no x ↦ behind j (omega arith) ]),
+      accepted-bytes p t n
+          ∙ bits-ext u v (lu ∙ sym lv) (putAll-bytes t 0 fs (omega (arith, w)) C) (bytes-append s (drop (length s) t) B (λ i. rw getD-drop (C (length s + i))))
+          (λ j l. elim (decLt j (8 * length s)) [ yes x ↦ in-sheet j x | no x ↦ behind-sheet j (omega arith) ]),
     )
   where
-    behind-at : (s t : List ℕ) (i : ℕ) → length s ≤ i → getD t i 0 ≡ getD (s ++ drop (length s) t) i 0
-    behind-at s t i l =
+    getD-behind : (s t : List ℕ) (i : ℕ) → length s ≤ i → getD t i 0 ≡ getD (s ++ drop (length s) t) i 0
+    getD-behind s t i l =
         let e : i ≡ length s + (i - length s) = omega arith in
         ap (λ (x : ℕ). getD t x 0) e ∙ sym (getD-drop (length s) t (i - length s) 0) ∙ sym (getD-append-add s (drop (length s) t) (i - length s) 0)
         ∙ ap (λ (x : ℕ). getD (s ++ drop (length s) t) x 0) (sym e)

@@ -57,7 +57,10 @@ module _ (s : List ℕ) (a : Sound s) where
   counts-kept =
       any-map badCount (componentAt (planIn s)) (countFrom 0 ((planIn s) .count))
       ∙ none-below (λ i. badCount (componentAt (planIn s) i)) 0 ((planIn s) .count)
-      (λ i x y. let w = uncut (blockAt s i) (a .uncut i (omega (arith, plan-count))) in rw (count-at i (omega (arith, plan-count))) (not-outside 1 mostHeld (countIn (blockAt s i)) (w .least) (w .most)))
+      (λ i x y.
+      let l : i < componentCount s = omega (arith, plan-count) in
+      let w = uncut (blockAt s i) (a .uncut i l) in
+      rw (count-at i l) (not-outside 1 mostHeld (countIn (blockAt s i)) (w .least) (w .most)))
 
   pub count-kept : rule3 ((planIn s) .count) ≡ false
   count-kept = rw plan-count (not-outside 1 mostComponents (componentCount s) (a .least) (a .most))

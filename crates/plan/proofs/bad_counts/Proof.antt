@@ -20,8 +20,10 @@ abbrev μ-loop : tie.MeasureT-loop
 returns : tie.Need-returns Inv-loop μ-loop
 unfolding rule4
 returns c =
-    search-hits (c .before .before .before .before .loop .inv) (omega arith) (sym (c .before .is-outside .ensures) ∙ c .if1 .taken)
-    ∙ sym (any-map badCount (componentAt (c .before .before .before .before .before .args .t1)) (countFrom 0 (c .before .before .before .before .before .args .t1 .count)))
+    let l = c .before .before .before .before in
+    let p = l .before .args .t1 in
+    search-hits (l .loop .inv) (omega arith) (sym (c .before .is-outside .ensures) ∙ c .if1 .taken)
+    ∙ sym (any-map badCount (componentAt p) (countFrom 0 (p .count)))
 
 loop-again : tie.Need-loop-again Inv-loop μ-loop
 loop-again c = search-goes-on (c .before .before .before .before .loop .inv) (omega arith) (sym (c .before .is-outside .ensures) ∙ c .if1 .left)
@@ -29,7 +31,8 @@ loop-again c = search-goes-on (c .before .before .before .before .loop .inv) (om
 returns-2 : tie.Need-returns-2 Inv-loop μ-loop
 unfolding rule4
 returns-2 c =
-    search-ends (c .before .loop .inv) (omega arith) ∙ sym (any-map badCount (componentAt (c .before .before .args .t1)) (countFrom 0 (c .before .before .args .t1 .count)))
+    let p = c .before .before .args .t1 in
+    search-ends (c .before .loop .inv) (omega arith) ∙ sym (any-map badCount (componentAt p) (countFrom 0 (p .count)))
 
 pub bad-counts-spec : {M : Type 1} → statement M
 bad-counts-spec =

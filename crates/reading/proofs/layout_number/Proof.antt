@@ -1,14 +1,12 @@
 -- `reading::layout_number` meets its contract. Assumes nothing.
 use borrow.Author.Needs.{needs}
 use borrow.Author.Tests.{eq-eqb, ne-eqb}
-use mathlib.Core.Path.{_≡_, sym, _∙_}
+use mathlib.Core.Path.{_≡_, _∙_}
 use mathlib.Core.Bool.{Bool}
 use mathlib.Core.List.{List}
-use Prim.Native.Nat.{ℕ, _+_, _*_}
+use Prim.Native.Nat.{ℕ, _+_}
 use lib.ListN.{length}
 use denote.Ref.{now}
-use Rattle.theory.specs.Limits.{entryCount}
-use Rattle.field.specs.Bits.{fieldAt}
 use Rattle.plan.specs.Tests.{firstBroken}
 use Rattle.reading.specs.Reading.{layoutTests, Told}
 use Rattle.reading.proofs.SheetLayout.{layoutBy, layout-is}
@@ -30,27 +28,19 @@ returns-2 c =
 
 returns-3 : tie.Need-returns-3
 returns-3 c =
-    let a = c .before .before .before .before .args in
-    by-told 5 (c .before .before .before .before .pre)
-    (rw (c .before .before .if1 .left, eq-eqb (a .end + a .n) (length (now (a .sheet))) (c .before .if2 .left), c .if3 .taken))
-
-returns-4 : tie.Need-returns-4
-returns-4 c =
-    let k = c .before .before .before in
-    let a = k .before .before .before .before .args in
-    let last : c .before .one .result ≡ fieldAt (now (a .sheet)) (8 * a .end + 4 * entryCount (a .n)) 4 = rw (← c .before .before .entry-count .ensures) (c .before .one .ensures) in
-    by-told 5 (k .before .before .before .before .pre)
-    (rw (k .before .before .if1 .left, eq-eqb (a .end + a .n) (length (now (a .sheet))) (k .before .if2 .left), k .if3 .left, ne-eqb (fieldAt (now (a .sheet)) (8 * a .end + 4 * entryCount (a .n)) 4) 0 (λ e. c .if4 .taken (last ∙ e))))
-
-returns-5 : tie.Need-returns-5
-returns-5 c =
-    let k = c .before .before .before in
-    let a = k .before .before .before .before .args in
-    let last : c .before .one .result ≡ fieldAt (now (a .sheet)) (8 * a .end + 4 * entryCount (a .n)) 4 = rw (← c .before .before .entry-count .ensures) (c .before .one .ensures) in
-    by-told 0 (k .before .before .before .before .pre)
-    (rw (k .before .before .if1 .left, eq-eqb (a .end + a .n) (length (now (a .sheet))) (k .before .if2 .left), k .if3 .left, eq-eqb (fieldAt (now (a .sheet)) (8 * a .end + 4 * entryCount (a .n)) 4) 0 (sym last ∙ c .if4 .left)))
+    let k = c .before .before .before .before in
+    let a = k .before .before .before .args in
+    by-told (c .first .result) (k .before .before .before .pre)
+    (c .first .ensures
+    ∙ rw (
+      k .before .if1 .left,
+      eq-eqb (a .end + a .n) (length (now (a .sheet))) (k .if2 .left),
+      c .before .either .ensures,
+      c .before .before .one .ensures,
+      c .before .before .before .entry-count .ensures,
+    ))
 
 pub layout-number-spec : {M : Type 1} → statement M
 layout-number-spec =
-    tie.close (tie.spec returns (λ c. search needs) returns-2 returns-3 (λ c κs. search needs) (λ c. search needs) (λ c. search needs)
-    (λ c. search needs) (λ c κs. search needs) returns-4 returns-5)
+    tie.close (tie.spec returns (λ c. search needs) returns-2 (λ c κs. search needs) (λ c. search needs) (λ c. search needs) (λ c. search needs)
+    (λ c κs. search needs) (λ c κs. search needs) (λ c κs. search needs) returns-3)
