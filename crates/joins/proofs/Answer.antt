@@ -34,12 +34,13 @@ module _ (ps : List Focal) where
       ⊎-elim (λ k. absurd (omega (arith, ap (λ (f : Filled). f .count) (fill-made k)))) (λ k. rw (lt-leb (length (collect ps)) mostIntervals k))
       (fits-or-over (length (collect ps)))
 
--- an answer with its number and its length
-pub answered : (l : List Focal) (r : Joined) → r ≡ joinedAs l → (joinNumber r ≡ numberOfJoin l) × (joinLength r ≡ lengthOfJoin l)
+-- An answer has its number and its length.
+pub answered : (l : List Focal) (r : Joined) → r ≡ joinedAs l → (r ≡ joinedAs l) × ((joinNumber r ≡ numberOfJoin l) × (joinLength r ≡ lengthOfJoin l))
 answered l r e =
-    rw e
-    (⊎-elim (λ k. rw (le-leb (length l) mostIntervals k, le-ltb mostIntervals (length l) k) (cc, cc))
-    (λ k. rw (lt-leb (length l) mostIntervals k, lt-ltb mostIntervals (length l) k) (cc, cc)) (fits-or-over (length l)))
+    let k : (joinNumber (joinedAs l) ≡ numberOfJoin l) × (joinLength (joinedAs l) ≡ lengthOfJoin l) =
+    ⊎-elim (λ k. rw (le-leb (length l) mostIntervals k, le-ltb mostIntervals (length l) k) (cc, cc))
+    (λ k. rw (lt-leb (length l) mostIntervals k, lt-ltb mostIntervals (length l) k) (cc, cc)) (fits-or-over (length l)) in
+    (e, (ap joinNumber e ∙ k .0, ap joinLength e ∙ k .1))
 
 pub made-inv : (l : List Focal) (n : ℕ) → Made n ≡ joinedAs l → (n ≡ length l) × (length l ≤ mostIntervals)
 made-inv l n e =

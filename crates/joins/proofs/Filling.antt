@@ -39,7 +39,7 @@ module _ (l : List Focal) (p : Focal) (ps : List Focal) where
   fill-stops : mostIntervals < length (inserted p l) → fill l (p ∷ ps) ≡ record { list = l; count = length (inserted p l) }
   fill-stops h = rw (lt-leb (length (inserted p l)) mostIntervals h)
 
-  -- by whether it stops at p
+  -- A fill is taken apart by whether it stops at p.
   by-room : (P : Filled → Type 0) → (length (inserted p l) ≤ mostIntervals → P (fill (inserted p l) ps))
       → (mostIntervals < length (inserted p l) → P (record { list = l; count = length (inserted p l) })) → P (fill l (p ∷ ps))
   by-room P f g = ⊎-elim (λ h. rw (fill-goes h) (f h)) (λ h. rw (fill-stops h) (g h)) (fits-or-over (length (inserted p l)))
@@ -98,16 +98,15 @@ pub record Filling (out₀ out : List ℕ) (m : ℕ) (rest : List Focal) (g : Fi
   pub fits : weights acc + weights rest < 2 ^ 64
   pub goal : fill acc rest ≡ g
 
--- what is there at the end
-pub record Done (out₀ out : List ℕ) (m : ℕ) (g : Filled) : Type 0 where
-  pub count : m ≡ g .count
-  pub bytes : out ≡ holding out₀ (g .list)
+-- What is there at the end.
+abbrev pub Done : List ℕ → List ℕ → ℕ → Filled → Type 0
+Done out₀ out m g = (m ≡ g .count) × (out ≡ holding out₀ (g .list))
 
 pub filling-done : {out₀ out : List ℕ} {m : ℕ} {g : Filled} → Filling out₀ out m [] g → Done out₀ out m g
 filling-done {out₀ = out₀} f =
-    record { count = f .held .count ∙ ap (λ (x : Filled). x .count) (f .goal); bytes = f .held .bytes ∙ ap (λ (x : Filled). holding out₀ (x .list)) (f .goal) }
+    (f .held .count ∙ ap (λ (x : Filled). x .count) (f .goal), f .held .bytes ∙ ap (λ (x : Filled). holding out₀ (x .list)) (f .goal))
 
--- one interval goes in
+-- One interval goes in.
 module _ {out₀ out : List ℕ} {m : ℕ} {p : Focal} {rest : List Focal} {g : Filled} (f : Filling out₀ out m (p ∷ rest) g) where
   pub fits-now : weights (f .acc) + p .weight < 2 ^ 64
   fits-now = omega (arith, f .fits)
@@ -128,12 +127,9 @@ module _ {out₀ out : List ℕ} {m : ℕ} {p : Focal} {rest : List Focal} {g : 
     pub filling-stop : mostIntervals < r .count → Done out₀ e (r .count) g
     filling-stop h =
         let ge : record { list = f .acc; count = length (inserted p (f .acc)) } ≡ g = sym (fill-stops (f .acc) p rest (omega (arith, count))) ∙ f .goal in
-        record {
-          count = count ∙ ap (λ (x : Filled). x .count) ge;
-          bytes = held-stop (f .held) u fits-now q ensures h ∙ ap (λ (x : Filled). holding out₀ (x .list)) ge;
-        }
+        (count ∙ ap (λ (x : Filled). x .count) ge, held-stop (f .held) u fits-now q ensures h ∙ ap (λ (x : Filled). holding out₀ (x .list)) ge)
 
--- a row of intervals goes in
+-- A row of intervals goes in.
 module _ {out₀ out : List ℕ} {m : ℕ} (xs rest : List Focal) {g : Filled} (f : Filling out₀ out m (xs ++ rest) g) where
   pub row-insertable : Insertable out m (weights xs)
   row-insertable = insertable (f .held) (weights xs) (omega (arith, f .fits, sum-append (λ (x : Focal). x .weight) xs rest))
@@ -170,10 +166,7 @@ module _ {out₀ out : List ℕ} {m : ℕ} (xs rest : List Focal) {g : Filled} (
     pub filling-row-stop : mostIntervals < n → Done out₀ e n g
     filling-row-stop h =
         let ge : fill (f .acc) xs ≡ g = sym (fill-off (f .acc) xs rest (f .held .room) (omega (arith, row-count))) ∙ f .goal in
-        record {
-          count = row-count ∙ ap (λ (x : Filled). x .count) ge;
-          bytes = row-bytes ∙ ap (λ (x : Filled). holding out₀ (x .list)) ge;
-        }
+        (row-count ∙ ap (λ (x : Filled). x .count) ge, row-bytes ∙ ap (λ (x : Filled). holding out₀ (x .list)) ge)
 
 -- ---- what is filled where the whole list has at most mostIntervals intervals, and where it has more
 

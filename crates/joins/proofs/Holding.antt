@@ -1,6 +1,6 @@
 -- A list that a buffer holds, and one insertion into it. Assumes nothing.
 use mathlib.Core.Path.{_≡_, sym, ap, _∙_}
-use mathlib.Core.List.{List}
+use mathlib.Core.List.{List, []}
 use Prim.Native.Nat.{ℕ, _+_, _*_, _^_, _≤_, _<_}
 use native.Mathlib.Omega.{arith}
 use lib.ListN.{length, drop}
@@ -48,6 +48,11 @@ held out m w b i =
       sum = omega (arith, i .fits);
     }
 
+-- At first the list is empty.
+pub held-none : (out : List ℕ) → Bytes out → listBytes ≤ length out → Held out out 0 []
+unfolding records
+held-none out b h = held out 0 0 b (record { count = omega arith; room = h; ordered = InOrder.none; fits = omega arith })
+
 module _ {out₀ out : List ℕ} {m : ℕ} {l : List Focal} (h : Held out₀ out m l) where
   pub view : records m out ≡ l
   view = (λ k. records (h .count k) (h .bytes k)) ∙ records-encode (drop (12 * length l) out₀) (h .under) (h .sum)
@@ -59,20 +64,20 @@ module _ {out₀ out : List ℕ} {m : ℕ} {l : List Focal} (h : Held out₀ out
   insertable w f =
       record { count = omega (arith, h .room, h .count); room = omega (arith, length-now, h .len); ordered = rw view (h .order); fits = rw view f }
 
-  -- what an insertion of p answers and leaves
+  -- One insertion of p.
   module _ {p : Focal} (u : Under speedLimit p) (f : weights l + p .weight < 2 ^ 64) {g : Focal} (q : g ≡ p) {e : List ℕ} {r : Insertion}
       (ensures : (r ≡ insertionOf g (records m out)) × (e ≡ holding out (insertOrStay g (records m out)))) where
     pub held-count : r .count ≡ length (inserted p l)
     held-count = ap (λ (x : Insertion). x .count) (ensures .0) ∙ (λ k. length (inserted (q k) (view k)))
 
-    left : e ≡ holding (holding out₀ l) (insertOrStay p l)
-    left = ensures .1 ∙ (λ k. holding (h .bytes k) (insertOrStay (q k) (view k)))
+    after : e ≡ holding (holding out₀ l) (insertOrStay p l)
+    after = ensures .1 ∙ (λ k. holding (h .bytes k) (insertOrStay (q k) (view k)))
 
     pub held-step : r .count ≤ mostIntervals → Held out₀ e (r .count) (inserted p l)
     held-step k =
         let fit : length (inserted p l) ≤ mostIntervals = omega (arith, held-count) in
         record {
-          bytes = left ∙ ap (holding (holding out₀ l)) (stay-fits p l fit) ∙ holding-over out₀ l (inserted p l) (length-insert p l .0);
+          bytes = after ∙ ap (holding (holding out₀ l)) (stay-fits p l fit) ∙ holding-over out₀ l (inserted p l) (length-insert p l .0);
           count = held-count;
           room = fit;
           len = h .len;
@@ -82,4 +87,4 @@ module _ {out₀ out : List ℕ} {m : ℕ} {l : List Focal} (h : Held out₀ out
         }
 
     pub held-stop : mostIntervals < r .count → e ≡ holding out₀ l
-    held-stop k = left ∙ ap (holding (holding out₀ l)) (stay-full p l (omega (arith, held-count))) ∙ holding-over out₀ l l (omega arith)
+    held-stop k = after ∙ ap (holding (holding out₀ l)) (stay-full p l (omega (arith, held-count))) ∙ holding-over out₀ l l (omega arith)

@@ -11,7 +11,7 @@ use Rattle.theory.specs.Lists.{inserted, collect}
 use Rattle.theory.specs.declared.Component.{Component}
 use Rattle.theory.proofs.Lists.{length-insert, collect-snoc}
 
--- the list of the first i intervals
+-- The list of the first i intervals.
 abbrev pub collected : Component → ℕ → List Focal
 collected c i = collect (map (focalAt c) (countFrom 0 i))
 

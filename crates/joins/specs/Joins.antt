@@ -8,7 +8,7 @@ use Rattle.theory.specs.Sums.{Every}
 use Rattle.theory.specs.Focal.{Focal, weights}
 use Rattle.theory.specs.declared.Join.{Join}
 use Rattle.theory.specs.Joins.{joinedFocal, pairs}
-use Rattle.theory.specs.Lists.{collect}
+use Rattle.theory.specs.Lists.{joinLists}
 use Rattle.theory.specs.Limits.{mostIntervals, recordBytes, listBytes}
 use Rattle.records.specs.Records.{records, Under}
 use Rattle.records.specs.Store.{listIn, holdingFrom}
@@ -16,7 +16,7 @@ use Rattle.joins.specs.declared.Joined.{Joined}
 use Rattle.joins.specs.declared.Joined.the-variants.{Made, Full}
 use Rattle.joins.specs.Filling.{Filled, fill}
 
--- what a join answers whose list is l
+-- What a join answers whose list is l.
 abbrev pub joinedAs : List Focal → Joined
 joinedAs l = cond (leb (length l) mostIntervals) (Made (length l)) Full
 
@@ -29,35 +29,35 @@ abbrev pub joinLength : Joined → ℕ
 joinLength (Made n) = n
 joinLength Full = 0
 
--- the number of a join whose list is l: 14 where that has more than 256 different intervals
+-- The number of a join whose list is l: 14 where that has more than 256 different intervals.
 abbrev pub numberOfJoin : List Focal → ℕ
 numberOfJoin l = cond (ltb mostIntervals (length l)) 14 0
 
--- the length that a join answers whose list is l
+-- The length that a join answers whose list is l.
 abbrev pub lengthOfJoin : List Focal → ℕ
 lengthOfJoin l = cond (ltb mostIntervals (length l)) 0 (length l)
 
--- one interval joined with each of a list
+-- A row of pairs: one interval joined with each of a list.
 abbrev pub rowOf : Join → Focal → List Focal → List Focal
 rowOf op f gs = map (joinedFocal op f) gs
 
--- with each of the first nb records of b, put into the list of the first n records of out
+-- The row with the first nb records of b goes into the list of the first n records of out.
 abbrev pub filledRow : Join → Focal → List ℕ → ℕ → List ℕ → ℕ → Filled
 filledRow op f b nb out n = fill (records n out) (rowOf op f (records nb b))
 
--- the pairs of two lists of a store: na records from byte `left` on, and nb from byte `right` on
+-- The pairs of two lists of a store: na records from byte `left` on, and nb from byte `right` on.
 abbrev pub pairsIn : Join → List ℕ → ℕ → ℕ → ℕ → ℕ → List Focal
 pairsIn op s left na right nb = pairs op (listIn s left na) (listIn s right nb)
 
--- the list of their join
+-- The list of their join.
 abbrev pub joinIn : Join → List ℕ → ℕ → ℕ → ℕ → ℕ → List Focal
-joinIn op s left na right nb = collect (pairsIn op s left na right nb)
+joinIn op s left na right nb = joinLists op (listIn s left na) (listIn s right nb)
 
--- the store after their join, whose list goes to byte `free`
+-- The store after their join: its list, as far as it was filled, stands from byte `free` on.
 abbrev pub joinedStore : Join → List ℕ → ℕ → ℕ → ℕ → ℕ → ℕ → List ℕ
 joinedStore op s left na right nb free = holdingFrom s free (fill [] (pairsIn op s left na right nb) .list)
 
--- what the speeds of two lists keep below, so that those of their join fit a record
+-- Speeds of two lists below this join to speeds that fit a record.
 abbrev pub operandLimit : ℕ
 operandLimit = 32768
 

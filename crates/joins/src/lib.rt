@@ -14,14 +14,14 @@ ghost use Rattle.records.specs.Store.{copiedFrom, holding, holdingFrom};
 ghost use Rattle.records.specs.Insertion.{Insertable};
 ghost use Rattle.joins.specs.Filling.{fill};
 ghost use Rattle.joins.specs.Joins.{joinedAs, joinNumber, joinLength, numberOfJoin, lengthOfJoin, filledRow, joinIn, joinedStore, operandLimit, Joinable};
-use records::SPEEDS;
+use records::SPEED_LIMIT;
 use theory::Component;
 use theory::Join;
 use theory::LIST_BYTES;
 use theory::MOST_INTERVALS;
 use theory::RECORD_BYTES;
 
-// the most intervals of a short list, and its bytes
+// The most intervals of a short list, and its bytes.
 const SHORT: usize = 16;
 
 const SHORT_BYTES: usize = RECORD_BYTES * SHORT;
@@ -48,17 +48,23 @@ fn join_row(op: Join, key: u64, weight: u64, b: &[u8], nb: usize, out: &mut [u8]
     ensures { λ r. ⌜ r ≡ filledRow op (keyed key weight) (now (b .entry)) nb (now (out .entry)) n .count ⌝ }
     ensures { λ _. ⌜ now (out .exit) ≡ holding (now (out .entry)) (filledRow op (keyed key weight) (now (b .entry)) nb (now (out .entry)) n .list) ⌝ }
 {
-    let low = key / SPEEDS;
-    let high = key % SPEEDS;
+    let low = key / SPEED_LIMIT;
+    let high = key % SPEED_LIMIT;
     let mut m = n;
     let mut hint = 0;
     let mut j = 0;
     while j < nb {
-        let k = records::key_at(b, j);
-        let l = theory::join_speeds(op, low, k / SPEEDS);
-        let h = theory::join_speeds(op, high, k % SPEEDS);
-        let w = product_weight(weight, records::weight_at(b, j));
-        let r = records::insert(out, m, l * SPEEDS + h, w, hint);
+        let other = records::key_at(b, j);
+        let joined_low = theory::join_speeds(op, low, other / SPEED_LIMIT);
+        let joined_high = theory::join_speeds(op, high, other % SPEED_LIMIT);
+        let product = product_weight(weight, records::weight_at(b, j));
+        let r = records::insert(
+            out,
+            m,
+            joined_low * SPEED_LIMIT + joined_high,
+            product,
+            hint,
+        );
         m = r.count;
         hint = r.place;
         if MOST_INTERVALS < m {
@@ -154,6 +160,7 @@ pub fn join_in_store(
     join_copied(op, &mut a, &mut b, store, left, na, right, nb, free)
 }
 
+// A speed or a weight of a component as a number.
 fn wide(x: u16) -> u64
     ensures { λ r. ⌜ (r ≡ x) × (r < speedLimit) ⌝ }
 {
@@ -173,7 +180,7 @@ fn put_listed(c: Component, out: &mut [u8]) -> usize
     let mut m = 0;
     let mut i = 0;
     while i < count {
-        let key = wide(lows[i]) * SPEEDS + wide(highs[i]);
+        let key = wide(lows[i]) * SPEED_LIMIT + wide(highs[i]);
         let r = records::insert(out, m, key, wide(weights[i]), m);
         m = r.count;
         i += 1;

@@ -15,7 +15,7 @@ use Rattle.numbers.specs.Numbers.{Bytes, bigEndian, onto, numberAt}
 pub part-cons : (s : List ℕ) (k m : ℕ) → k < length s → take (m + 1) (drop k s) ≡ getD s k 0 ∷ take m (drop (k + 1) s)
 part-cons s k m h = rw (add-one, drop-cons s k 0, add-one k)
 
--- the part from k to the end is the rest
+-- The part from k to the end is the rest.
 pub part-rest : (s : List ℕ) (k : ℕ) → take (length s - k) (drop k s) ≡ drop k s
 part-rest s k = take-all (length s - k) (drop k s) (omega (arith, length-drop k s))
 

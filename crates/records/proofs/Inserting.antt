@@ -40,12 +40,12 @@ module _ (n : ℕ) (s : List ℕ) (b : Bytes s) (f : 12 * n ≤ length s) (p : �
       ap (take (12 * n - 12 * p)) cut-back
       ∙ take-at (encode (drop p (records n s))) (drop (12 * n) s) (12 * n - 12 * p) (rw (length-encode, length-drop, length-records) (omega arith))
 
--- a front, one record, a back
+-- A front, one record and a back make one list.
 spread : (x : List Focal) (f : Focal) (y : List Focal) (t : List ℕ) → encode x ++ (bytesOf f ++ (encode y ++ t)) ≡ encode (x ++ (f ∷ y)) ++ t
 unfolding encode
 spread x f y t = rw (encode-append, append-assoc, append-assoc)
 
--- what an insertion of f into the n records of s answers and leaves
+-- What an insertion of f into the n records of s answers and leaves.
 abbrev pub Inserted : ℕ → List ℕ → List ℕ → Focal → Insertion → Type 0
 Inserted n s e f r = (r ≡ insertionOf f (records n s)) × (e ≡ holding s (insertOrStay f (records n s)))
 
@@ -72,7 +72,7 @@ module _ (n : ℕ) (s : List ℕ) (b : Bytes s) (f : Focal) (p : ℕ) (pe : p �
             ∙ ap (holding s) (sym (stay-fits f l (omega arith))),
       )
 
-  -- where no record is the same interval
+  -- No record is the same interval.
   module _ (new : p < n → isEq (order (recordAt s p) f) ≡ false) where
     list-is : inserted f (records n s) ≡ take p (records n s) ++ (f ∷ drop p (records n s))
     list-is =
@@ -112,7 +112,7 @@ module _ (n : ℕ) (s : List ℕ) (b : Bytes s) (f : Focal) (p : ℕ) (pe : p �
     insert-over fit m =
         (count-is (n + 1) longer, holds n s b fit ∙ ap (holding s) (sym (stay-full f (records n s) (omega (arith, longer)))))
 
--- a record's weight is at most the sum
+-- A record's weight is at most the sum.
 at-le-sum : (l : List Focal) (p : ℕ) → p < length l → intervalAt l p .weight ≤ weights l
 at-le-sum [] p h = absurd (not-suc-le-zero h)
 at-le-sum (x ∷ xs) zero h = omega arith

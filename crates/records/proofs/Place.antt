@@ -51,7 +51,7 @@ key-lt : (f g : Focal) → f .high < speedLimit → g .high < speedLimit → Bef
 key-lt f g u v (inl h) = omega arith
 key-lt f g u v (inr h) = omega arith
 
--- a record's key tested against another key
+-- A record's key is tested against another key.
 pub key-tests : (s : List ℕ) (i key : ℕ) → Bytes s → let f = recordAt s i in
     (ltb (keyOf f) key ≡ isBefore (order f (keyed key 0))) × (eqb (keyOf f) key ≡ isEq (order f (keyed key 0)))
 key-tests s i key b =
@@ -74,12 +74,12 @@ place-within f (g ∷ gs) = go (isBefore (order g f)) (place-within f gs)
     go true h = omega arith
     go false h = omega arith
 
--- whatever its weight
+-- The place does not go by the weight.
 pub place-weight : (f : Focal) (weight : ℕ) (l : List Focal) → place f l ≡ place (withWeight f weight) l
 place-weight f w [] = refl
 place-weight f w (g ∷ gs) = ap (λ (n : ℕ). cond (isBefore (order g f)) (suc n) 0) (place-weight f w gs)
 
--- all before it come before
+-- All in front of the place come before,
 place-front : (f : Focal) (l : List Focal) → Every (λ g. Before g f) (take (place f l) l)
 place-front f [] = Every.none
 place-front f (g ∷ gs) = go (isBefore (order g f)) refl (place-front f gs)
@@ -88,7 +88,7 @@ place-front f (g ∷ gs) = go (isBefore (order g f)) refl (place-front f gs)
     go true e r = Every.more (before-true g f e) r
     go false e r = Every.none
 
--- and the one at it does not
+-- and the one at it does not.
 place-stop : (f : Focal) (l : List Focal) → place f l < length l → isBefore (order (intervalAt l (place f l)) f) ≡ false
 place-stop f [] h = absurd (not-suc-le-zero h)
 place-stop f (g ∷ gs) h = go (isBefore (order g f)) refl (place-stop f gs) h
@@ -98,7 +98,7 @@ place-stop f (g ∷ gs) h = go (isBefore (order g f)) refl (place-stop f gs) h
     go true e r h = r (le-of-suc-le-suc h)
     go false e r h = e
 
--- what a test of the interval at m says of the place
+-- A test of the interval at m bounds the place.
 place-below : (f : Focal) (l : List Focal) (m : ℕ) → m < length l → isBefore (order (intervalAt l m) f) ≡ false → place f l ≤ m
 place-below f [] m h e = absurd (not-suc-le-zero h)
 place-below f (g ∷ gs) zero h e = rw e (omega arith)
@@ -116,7 +116,7 @@ place-above f (InOrder.more {f = g} {fs = gs} b r) (suc m) h e =
     let p : Before g f = before-trans g (intervalAt gs m) f (index-of-every noFocal b m (le-of-suc-le-suc h)) (before-true (intervalAt gs m) f e) in
     rw (ap isBefore (order-before g f p)) (omega arith)
 
--- the same of record m of a buffer
+-- The same holds of record m of a buffer.
 module _ (n : ℕ) (s : List ℕ) (f : Focal) where
   pub tested-above : InOrder (records n s) → (m : ℕ) → m < n → isBefore (order (recordAt s m) f) ≡ true → m < place f (records n s)
   tested-above o m h e = place-above f o m (rw length-records h) (ap (λ (g : Focal). isBefore (order g f)) (records-at n m s h) ∙ e)

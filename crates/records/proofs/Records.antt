@@ -46,7 +46,7 @@ pub length-bytesOf : (r : Focal) → length (bytesOf r) ≡ 12
 unfolding bytesOf bigEndian
 length-bytesOf r = refl
 
--- the ends of an interval from its key, and the interval
+-- A key gives back the ends of its interval, and the interval.
 pub key-ends : (f : Focal) {key : ℕ} → key ≡ keyOf f → f .high < speedLimit → (key / speedLimit ≡ f .low) × (key % speedLimit ≡ f .high)
 key-ends f e h = (omega arith, omega arith)
 
@@ -55,7 +55,7 @@ from-key f h = let e = key-ends f {key = keyOf f} refl h in λ t. record { low =
 
 -- ---- lists of records
 
--- interval i of a list
+-- Interval i of a list.
 abbrev pub intervalAt : List Focal → ℕ → Focal
 intervalAt l i = getD l i noFocal
 
@@ -82,7 +82,7 @@ records-at (suc n) (suc i) s h =
     let e : 12 + 12 * i ≡ 12 * suc i = omega arith in
     records-at n i (drop 12 s) (le-of-suc-le-suc h) ∙ ap headRecord (drop-drop (12 * i) 12 s ∙ ap (λ (k : ℕ). drop k s) e)
 
--- from record i on
+-- A walk along the records takes one after the other.
 pub records-next : (n i : ℕ) (s : List ℕ) → i < n → drop i (records n s) ≡ recordAt s i ∷ drop (i + 1) (records n s)
 records-next n i s h =
     let l : i < length (records n s) = rw length-records h in
@@ -96,7 +96,7 @@ records-each {P} n i s e h = subst P (records-at n i s h) (index-of-every noFoca
 
 -- ---- a record written
 
--- the weight is stored, and then the key before it
+-- The weight is stored, and then the key before it.
 pub key-stored : (s : List ℕ) (key weight p : ℕ) → p + 12 ≤ length s → (t : List ℕ) → t ≡ replaced s (p + 4) 8 (bigEndian 8 weight)
     → replaced t p 4 (bigEndian 4 key) ≡ replaced s p 12 (bytesOf (keyed key weight))
 unfolding bytesOf
@@ -114,7 +114,7 @@ bigEndian-at s a n h k =
     let l : length (take n (drop a s)) ≡ n = length-take-le n (drop a s) (rw length-drop (omega arith)) in
     ap (λ (m : ℕ). bigEndian m (numberAt s a n)) (sym l) ∙ bigEndian-onto 0 (take n (drop a s)) (bytes-take n (drop a s) (bytes-drop a s h))
 
--- the weight alone is stored
+-- The weight alone is stored.
 pub weight-stored : (s : List ℕ) (p weight : ℕ) → Bytes s → p + 12 ≤ length s
     → replaced s (p + 4) 8 (bigEndian 8 weight) ≡ replaced s p 12 (bytesOf (withWeight (headRecord (drop p s)) weight))
 unfolding bytesOf headRecord
@@ -154,7 +154,7 @@ drop-back : (r : Focal) (t : List ℕ) → drop 12 (bytesOf r ++ t) ≡ t
 unfolding bytesOf bigEndian
 drop-back r t = refl
 
--- weights fit 64 bits where their sum does
+-- Weights fit 64 bits where their sum does.
 pub records-encode : {l : List Focal} (t : List ℕ) → Every (Under speedLimit) l → weights l < 2 ^ 64 → records (length l) (encode l ++ t) ≡ l
 unfolding records encode
 records-encode t Every.none h = refl

@@ -25,11 +25,11 @@ records-append zero x t h = refl
 records-append (suc n) x t h =
     rw (number-front x t 0 2 (omega arith), number-front x t 2 2 (omega arith), number-front x t 4 8 (omega arith), drop-append-le 12 x t (omega arith), records-append n (drop 12 x) t (rw length-drop (omega arith)))
 
--- whatever stands behind them
+-- It does not matter what stands behind them.
 records-front : (n : ℕ) (x t u : List ℕ) → 12 * n ≤ length x → records n (x ++ t) ≡ records n (x ++ u)
 records-front n x t u h = records-append n x t h ∙ sym (records-append n x u h)
 
--- the 12 * n bytes from `start` on hold their records wherever they stand
+-- The 12 * n bytes from `start` on hold their records wherever they stand.
 pub copy-holds : (s z : List ℕ) (start n : ℕ) → start + 12 * n ≤ length s → records n (take (12 * n) (drop start s) ++ z) ≡ listIn s start n
 copy-holds s z start n h =
     let d : List ℕ = drop start s in
@@ -41,7 +41,7 @@ copy-holds s z start n h =
 pub length-holding : (s : List ℕ) (l : List Focal) → 12 * length l ≤ length s → length (holding s l) ≡ length s
 length-holding s l h = length-append (encode l) (drop (12 * length l) s) ∙ rw (length-encode, length-drop) (omega arith)
 
--- bytes behind the list are as they were
+-- Bytes behind the list are as they were.
 holding-behind : (s : List ℕ) (l : List Focal) (end : ℕ) → 12 * length l ≤ end → drop end (holding s l) ≡ drop end s
 holding-behind s l end h =
     let m : ℕ = end - 12 * length l in
@@ -60,12 +60,12 @@ module _ (s : List ℕ) (free : ℕ) (l : List Focal) where
       length-append (take free s) (holding (drop free s) l)
       ∙ rw (length-take-le free s (omega arith), length-holding (drop free s) l (rw length-drop (omega arith)), length-drop) (omega arith)
 
-  -- the new list stands there
+  -- The new list stands there,
   pub listIn-from : free ≤ length s → Every (Under speedLimit) l → weights l < 2 ^ 64 → listIn (holdingFrom s free l) free (length l) ≡ l
   listIn-from h u t =
       rw (drop-at (take free s) (holding (drop free s) l) free (length-take-le free s h)) (records-encode (drop (12 * length l) (drop free s)) u t)
 
-  -- and every list before it as it stood
+  -- every list before it stands as it stood,
   pub listIn-before : (start n : ℕ) → free ≤ length s → start + 12 * n ≤ free → listIn (holdingFrom s free l) start n ≡ listIn s start n
   listIn-before start n h k =
       let t : List ℕ = holding (drop free s) l in
@@ -74,7 +74,7 @@ module _ (s : List ℕ) (free : ℕ) (l : List Focal) where
       (records-front n (drop start (take free s)) t (drop free s) (rw length-drop (omega arith))
       ∙ ap (records n) (sym (drop-append-le start (take free s) (drop free s) (omega arith)) ∙ ap (drop start) (take-append-drop free s)))
 
-  -- later bytes too
+  -- and later bytes are as they were.
   pub drop-from : (end : ℕ) → free + 12 * length l ≤ end → free ≤ length s → drop end (holdingFrom s free l) ≡ drop end s
   drop-from end h k =
       let t : List ℕ = holding (drop free s) l in
@@ -97,6 +97,6 @@ settles s t start n end b h k e =
     let back : drop end t ≡ drop end s = ap (drop end) q ∙ holding-behind s l end (omega arith) in
     λ i. front i ++ (replicate (end - 12 * sym ln i) 0 ++ back i)
 
--- it is read back there
+-- It is read back there.
 pub settled-list : (end : ℕ) (s : List ℕ) {l : List Focal} → Every (Under speedLimit) l → weights l < 2 ^ 64 → records (length l) (settled end l s) ≡ l
 settled-list end s {l} u w = records-encode (replicate (end - 12 * length l) 0 ++ drop end s) u w

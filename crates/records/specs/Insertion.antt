@@ -10,7 +10,7 @@ use Rattle.theory.specs.Limits.{mostIntervals, listBytes}
 use Rattle.records.specs.declared.Insertion.{Insertion}
 use Rattle.records.specs.Records.{records}
 
--- whether an answer of `order` is "before"
+-- Whether an answer of `order` is "before".
 abbrev pub isBefore : Ordering → Bool
 isBefore Ordering·lt = true
 isBefore Ordering·eq = false
@@ -21,11 +21,11 @@ abbrev pub place : Focal → List Focal → ℕ
 place f [] = 0
 place f (g ∷ gs) = cond (isBefore (order g f)) (suc (place f gs)) 0
 
--- one insertion: the length that the list then would have, and the place
+-- What an insertion answers: the length that the list then would have, and the place.
 abbrev pub insertionOf : Focal → List Focal → Insertion
 insertionOf f l = record { count = length (inserted f l); place = place f l }
 
--- a list has at most 256 intervals: a 257th leaves it as it is
+-- A list has at most 256 intervals: a 257th leaves it as it is.
 abbrev pub insertOrStay : Focal → List Focal → List Focal
 insertOrStay f l = cond (leb (length (inserted f l)) mostIntervals) (inserted f l) l
 

@@ -7,41 +7,41 @@ use Rattle.theory.specs.Focal.{Focal, focal}
 use Rattle.theory.specs.Limits.{recordBytes}
 use Rattle.numbers.specs.Numbers.{bigEndian, numberAt}
 
--- an interval with another weight
+-- An interval with another weight.
 abbrev pub withWeight : Focal → ℕ → Focal
 withWeight f weight = focal (f .low) (f .high) weight
 
--- the bytes of a record
+-- The bytes of a record.
 unfoldable pub bytesOf : Focal → List ℕ
 bytesOf f = bigEndian 2 (f .low) ++ (bigEndian 2 (f .high) ++ bigEndian 8 (f .weight))
 
--- the bytes of a list
+-- The bytes of a list.
 unfoldable pub encode : List Focal → List ℕ
 encode [] = []
 encode (f ∷ fs) = bytesOf f ++ encode fs
 
--- the record in the first bytes of s
+-- The record in the first bytes of s.
 unfoldable pub headRecord : List ℕ → Focal
 headRecord s = focal (numberAt s 0 2) (numberAt s 2 2) (numberAt s 4 8)
 
--- record i of s
+-- Record i of s.
 abbrev pub recordAt : List ℕ → ℕ → Focal
 recordAt s i = headRecord (drop (recordBytes * i) s)
 
--- the first n records of s
+-- The first n records of s.
 unfoldable pub records : ℕ → List ℕ → List Focal
 records zero s = []
 records (suc n) s = headRecord s ∷ records n (drop recordBytes s)
 
--- low and high take 16 bits each: what a record can hold
+-- Low and high take 16 bits each, so a record holds speeds below this.
 abbrev pub speedLimit : ℕ
 speedLimit = 65536
 
--- both ends are below n
+-- Both ends are below n.
 abbrev pub Under : ℕ → Focal → Type 0
 Under n f = (f .low < n) × (f .high < n)
 
--- low and high as one number, the key, which orders intervals; and the interval of a key, with its weight
+-- The key: low and high as one number, which orders intervals. `keyed` is the interval of a key, with its weight.
 abbrev pub keyOf : Focal → ℕ
 keyOf f = f .low * speedLimit + f .high
 

@@ -5,6 +5,6 @@ use Rattle.theory.specs.Focal.{Focal}
 use Rattle.theory.specs.Choices.{belief, plausibility}
 use Rattle.records.specs.declared.Shares.{Shares}
 
--- belief and plausibility of a list at a demand
+-- Belief and plausibility of a list at a demand.
 abbrev pub sharesOf : ℕ → List Focal → Shares
 sharesOf demand l = record { belief = belief demand l; plausibility = plausibility demand l }

@@ -15,8 +15,8 @@ ghost use Rattle.records.specs.Insertion.{isBefore, place, insertionOf, 
 ghost use Rattle.records.specs.Shares.{sharesOf};
 use theory::RECORD_BYTES;
 
-// How many speeds a record's low, or its high, can be: a key is low * SPEEDS + high.
-pub const SPEEDS: u64 = 65536;
+// Low and high take 16 bits each: a key is low * SPEED_LIMIT + high.
+pub const SPEED_LIMIT: u64 = 65536;
 
 // What an insertion answers: the length that the list then would have, and the interval's place.
 pub struct Insertion {
@@ -193,8 +193,8 @@ pub fn shares_at(s: &[u8], n: usize, demand: u64) -> Shares
     while i < n {
         let key = key_at(s, i);
         let weight = weight_at(s, i);
-        belief += counted(key / SPEEDS, weight, demand);
-        plausibility += counted(key % SPEEDS, weight, demand);
+        belief += counted(key / SPEED_LIMIT, weight, demand);
+        plausibility += counted(key % SPEED_LIMIT, weight, demand);
         i += 1;
     }
     Shares {

@@ -11,10 +11,8 @@ use Rattle.theory.specs.Lists.{collect}
 use Rattle.numbers.proofs.Numbers.{part-rest}
 use Rattle.records.specs.Records.{records}
 use Rattle.records.specs.Store.{copiedFrom, listIn, holding}
-use Rattle.records.proofs.Store.{copy-holds}
-use Rattle.joins.specs.declared.Joined.{Joined}
 use Rattle.joins.specs.Filling.{fill}
-use Rattle.joins.specs.Joins.{joinedAs, joinNumber, joinLength, numberOfJoin, lengthOfJoin, pairsIn, joinedStore}
+use Rattle.joins.specs.Joins.{pairsIn, joinedStore}
 use Rattle.joins.proofs.Rest.{copied, rest-lent}
 use Rattle.joins.proofs.Answer.{made, full, answered}
 use Rattle.joins.proofs.join_copied.Statement.{statement}
@@ -32,26 +30,24 @@ begin c = c .before .before .before .before .before .before .before
 abbrev start : tie.After-join-lists → tie.Start
 start c = begin (first (second c))
 
--- the copies, and what they hold
-left-copied : (c : tie.After-copy) → let a = begin c .args in c .copy .last .1 .0 ≡ copiedFrom (a .store .now) (a .left) (12 * a .na) (a .a .now)
-left-copied c = let a = begin c .args in c .copy .ensures .1 ∙ copied (a .store .now) (a .a .now) (a .left) (12 * a .na) (begin c .pre .1 .first .inside)
+-- The copies, and what they hold.
+left : (c : tie.After-copy) → let a = begin c .args in
+    let e = c .copy .last .1 .0 in
+    (e ≡ copiedFrom (a .store .now) (a .left) (12 * a .na) (a .a .now)) × (records (a .na) e ≡ listIn (a .store .now) (a .left) (a .na))
+left c = let a = begin c .args in copied (a .store .now) (a .a .now) _ (a .left) (a .na) (begin c .pre .1 .first .inside) (c .copy .ensures .1)
 
-right-copied : (c : tie.After-copy2) → let a = begin (first c) .args in c .copy2 .last .1 .0 ≡ copiedFrom (a .store .now) (a .right) (12 * a .nb) (a .b .now)
-right-copied c = let a = begin (first c) .args in c .copy2 .ensures .1 ∙ copied (a .store .now) (a .b .now) (a .right) (12 * a .nb) (begin (first c) .pre .1 .second .inside)
+right : (c : tie.After-copy2) → let a = begin (first c) .args in
+    let e = c .copy2 .last .1 .0 in
+    (e ≡ copiedFrom (a .store .now) (a .right) (12 * a .nb) (a .b .now)) × (records (a .nb) e ≡ listIn (a .store .now) (a .right) (a .nb))
+right c = let a = begin (first c) .args in copied (a .store .now) (a .b .now) _ (a .right) (a .nb) (begin (first c) .pre .1 .second .inside) (c .copy2 .ensures .1)
 
-left-is : (c : tie.After-copy) → let a = begin c .args in records (a .na) (c .copy .last .1 .0) ≡ listIn (a .store .now) (a .left) (a .na)
-left-is c = let a = begin c .args in ap (records (a .na)) (left-copied c) ∙ copy-holds (a .store .now) _ (a .left) (a .na) (begin c .pre .1 .first .inside)
-
-right-is : (c : tie.After-copy2) → let a = begin (first c) .args in records (a .nb) (c .copy2 .last .1 .0) ≡ listIn (a .store .now) (a .right) (a .nb)
-right-is c = let a = begin (first c) .args in ap (records (a .nb)) (right-copied c) ∙ copy-holds (a .store .now) _ (a .right) (a .nb) (begin (first c) .pre .1 .second .inside)
-
--- the join's own pairs are the operands'
+-- The join's own pairs are the operands'.
 abbrev wanted : tie.Start → List Focal
 wanted s = let a = s .args in pairsIn (a .op) (a .store .now) (a .left) (a .na) (a .right) (a .nb)
 
 pairs-are : (c : tie.After-join-lists)
     → pairs (start c .args .op) (records (start c .args .na) (first (second c) .copy .last .1 .0)) (records (start c .args .nb) (second c .copy2 .last .1 .0)) ≡ wanted (start c)
-pairs-are c = λ k. pairs (start c .args .op) (left-is (first (second c)) k) (right-is (second c) k)
+pairs-are c = λ k. pairs (start c .args .op) (left (first (second c)) .1 k) (right (second c) .1 k)
 
 count-is : (c : tie.After-join-lists) → c .join-lists .result ≡ fill [] (wanted (start c)) .count
 count-is c = c .join-lists .ensures .0 ∙ ap (λ (l : List Focal). fill [] l .count) (pairs-are c)
@@ -70,25 +66,21 @@ join-lists-requires c κs =
     let s = begin ca in
     let j = s .pre .1 in (
       (omega (arith, ca .copy .kept, s .pre), omega (arith, cb .copy2 .kept, s .pre), rw (part-rest (s .args .store .now) (s .args .free), length-drop) (omega (arith, j .room))),
-      ((rw (left-is ca) (j .first .under), rw (right-is cb) (j .second .under)), rw (left-is ca, right-is cb) (j .fits)),
+      ((rw (left ca .1) (j .first .under), rw (right cb .1) (j .second .under)), rw (left ca .1, right cb .1) (j .fits)),
     )
 
--- the answer with its number and its length, and the bytes
-ends : (c : tie.After-join-lists) (r : Joined) → r ≡ joinedAs (collect (wanted (start c))) → let l = collect (wanted (start c)) in
-    (r ≡ joinedAs l) × ((joinNumber r ≡ numberOfJoin l) × (joinLength r ≡ lengthOfJoin l))
-ends c r e = let a = answered (collect (wanted (start c))) r e in (e, (a .0, a .1))
-
+-- The answer with its number and its length, and every byte.
 returns : tie.Need-returns
 returns c =
     let j = c .before .before .before in
-    let a = ends j _ (made (wanted (start j)) (j .join-lists .result) (count-is j) (c .if1 .taken)) in
-    (a .0, (a .1 .0, (a .1 .1, (bytes-are j, (left-copied (first (second j)), right-copied (second j))))))
+    let a = answered (collect (wanted (start j))) _ (made (wanted (start j)) (j .join-lists .result) (count-is j) (c .if1 .taken)) in
+    (a .0, (a .1 .0, (a .1 .1, (bytes-are j, (left (first (second j)) .0, right (second j) .0)))))
 
 returns-2 : tie.Need-returns-2
 returns-2 c =
     let j = c .before .before .before in
-    let a = ends j _ (full (wanted (start j)) (j .join-lists .result) (count-is j) (c .if1 .left)) in
-    (a .0, (a .1 .0, (a .1 .1, (bytes-are j, (left-copied (first (second j)), right-copied (second j))))))
+    let a = answered (collect (wanted (start j))) _ (full (wanted (start j)) (j .join-lists .result) (count-is j) (c .if1 .left)) in
+    (a .0, (a .1 .0, (a .1 .1, (bytes-are j, (left (first (second j)) .0, right (second j) .0)))))
 
 pub join-copied-spec : {M : Type 1} → statement M
 join-copied-spec =

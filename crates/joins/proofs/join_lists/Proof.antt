@@ -9,7 +9,6 @@ use lib.ListN.{drop}
 use Rattle.theory.specs.Sums.{Every}
 use Rattle.theory.specs.Focal.{Focal, weights}
 use Rattle.theory.specs.Joins.{pairs}
-use Rattle.theory.specs.Lists.{InOrder}
 use Rattle.theory.proofs.Totals.{weights-pairs}
 use Rattle.records.specs.Records.{keyed, recordAt, records, Under, speedLimit}
 use Rattle.records.specs.Store.{holding}
@@ -17,8 +16,8 @@ use Rattle.records.specs.Insertion.{Insertable}
 use Rattle.records.proofs.Records.{from-key, records-next, records-end, records-each}
 use Rattle.joins.specs.Filling.{Filled, fill}
 use Rattle.joins.specs.Joins.{rowOf, operandLimit}
-use Rattle.joins.proofs.Holding.{held, length-now}
-use Rattle.joins.proofs.Filling.{Filling, Done, row-insertable, filling-row, filling-row-stop, filling-done}
+use Rattle.joins.proofs.Holding.{held-none, length-now}
+use Rattle.joins.proofs.Filling.{Filling, row-insertable, filling-row, filling-row-stop, filling-done}
 use Rattle.joins.proofs.Pairs.{row-under, row-weights}
 use Rattle.joins.proofs.join_lists.Statement.{statement}
 use Rattle.joins.proofs.join_lists.Tie as tie
@@ -30,7 +29,7 @@ Inv-loop op a na b nb out₀ m₀ i₀ out m i =
 abbrev μ-loop : tie.MeasureT-loop
 μ-loop op a na b nb out₀ m₀ i₀ out m i = na - i
 
--- the two lists, and the record of this turn
+-- The two lists, and the record of this turn.
 abbrev left : tie.Start Inv-loop μ-loop → List Focal
 left c = records (c .args .na) (c .args .a .now)
 
@@ -60,18 +59,17 @@ turn c =
     subst (λ (l : List Focal). Filling (start c .args .out .now) (c .before .loop .out) (c .before .loop .m) (pairs (start c .args .op) l (right (start c))) (wanted (start c)))
     (records-next (start c .args .na) (c .before .loop .i) (start c .args .a .now) (c .loop-test .taken)) (c .before .loop .inv .1)
 
--- what is handed on is the record
+-- What is handed on is the record.
 handed : (c : tie.After-weight-at Inv-loop μ-loop) → keyed (c .before .key-at .result) (c .weight-at .result) ≡ own (c .before .before)
 handed c = (λ t. keyed (c .before .key-at .ensures t) (c .weight-at .ensures t)) ∙ from-key (own (c .before .before)) (omega (arith, small (c .before .before)))
 
 loop-holds : tie.Need-loop-holds Inv-loop μ-loop
-unfolding records
 loop-holds c =
     let s = c .before .before .before in (
       omega arith,
       record {
         acc = [];
-        held = held (s .args .out .now) 0 0 (λ i. c .slice-known .given i .fits) (record { count = omega arith; room = s .pre .0 .2; ordered = InOrder.none; fits = omega arith });
+        held = held-none (s .args .out .now) (λ i. c .slice-known .given i .fits) (s .pre .0 .2);
         fits = rw (weights-pairs (s .args .op) (left s) (right s), zero-add) (s .pre .1 .1);
         goal = refl;
       },
@@ -87,7 +85,7 @@ join-row-requires c κs =
       (start i .pre .0 .1, (subst (Under operandLimit) (sym (handed w)) (small i), start i .pre .1 .0 .1)),
     )
 
--- what the row answers and leaves, of the record
+-- So the row is the record's.
 row : (c : tie.After-join-row Inv-loop μ-loop) → let i = c .before .before .before .before in
     let l = i .before .loop in
     (c .join-row .result ≡ fill (records (l .m) (l .out)) (this i) .count) × (c .join-row .last .1 .1 .1 .1 .1 .0 ≡ holding (l .out) (fill (records (l .m) (l .out)) (this i) .list))
@@ -114,9 +112,7 @@ returns : tie.Need-returns Inv-loop μ-loop
 returns c =
     let r = c .before .before .before in
     let i = turn-of r in
-    let d : Done (start i .args .out .now) (r .join-row .last .1 .1 .1 .1 .1 .0) (r .join-row .result) (wanted (start i)) =
-    filling-row-stop (this i) (later i) (turn i) (row-small i) (row r) (c .if1 .taken) in
-    (d .count, d .bytes)
+    filling-row-stop (this i) (later i) (turn i) (row-small i) (row r) (c .if1 .taken)
 
 loop-again : tie.Need-loop-again Inv-loop μ-loop
 loop-again c =
@@ -128,10 +124,8 @@ returns-2 : tie.Need-returns-2 Inv-loop μ-loop
 returns-2 c =
     let s = c .before .before .before .before .before in
     let e : drop (c .before .loop .i) (left s) ≡ [] = records-end (s .args .na) (c .before .loop .i) (s .args .a .now) (c .loop-test .left) in
-    let d : Done (s .args .out .now) (c .before .loop .out) (c .before .loop .m) (wanted s) =
     filling-done
-    (subst (λ (l : List Focal). Filling (s .args .out .now) (c .before .loop .out) (c .before .loop .m) (pairs (s .args .op) l (right s)) (wanted s)) e (c .before .loop .inv .1)) in
-    (d .count, d .bytes)
+    (subst (λ (l : List Focal). Filling (s .args .out .now) (c .before .loop .out) (c .before .loop .m) (pairs (s .args .op) l (right s)) (wanted s)) e (c .before .loop .inv .1))
 
 pub join-lists-spec : {M : Type 1} → statement M
 join-lists-spec =

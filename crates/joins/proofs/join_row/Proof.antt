@@ -12,7 +12,7 @@ use Rattle.records.proofs.Records.{key-ends, from-key, records-next, records-en
 use Rattle.joins.specs.Filling.{Filled}
 use Rattle.joins.specs.Joins.{rowOf, filledRow, operandLimit}
 use Rattle.joins.proofs.Holding.{held, length-now, insertable}
-use Rattle.joins.proofs.Filling.{Filling, Done, fits-now, filling-step, filling-stop, filling-done}
+use Rattle.joins.proofs.Filling.{Filling, fits-now, filling-step, filling-stop, filling-done}
 use Rattle.joins.proofs.Pairs.{joined-under, row-weights}
 use Rattle.joins.proofs.join_row.Statement.{statement}
 use Rattle.joins.proofs.join_row.Tie as tie
@@ -24,7 +24,7 @@ Inv-loop op key weight b nb out₀ n low high m₀ hint₀ j₀ out m hint j =
 abbrev μ-loop : tie.MeasureT-loop
 μ-loop op key weight b nb out₀ n low high m₀ hint₀ j₀ out m hint j = nb - j
 
--- the interval of the row, the other list, and its interval in this turn
+-- The interval of the row, the other list, and its interval in this turn.
 abbrev own : tie.Start Inv-loop μ-loop → Focal
 own c = keyed (c .args .key) (c .args .weight)
 
@@ -59,7 +59,7 @@ turn c =
 ends : (c : tie.After-key-at Inv-loop μ-loop) → (c .key-at .result / speedLimit ≡ other (c .before) .low) × (c .key-at .result % speedLimit ≡ other (c .before) .high)
 ends c = key-ends (other (c .before)) (c .key-at .ensures) (omega (arith, small (c .before)))
 
--- what goes in is the pair
+-- What goes in is the pair.
 abbrev turn-of : tie.After-product-weight Inv-loop μ-loop → tie.In-loop Inv-loop μ-loop
 turn-of c = c .before .before .before .before .before
 
@@ -116,9 +116,7 @@ returns : tie.Need-returns Inv-loop μ-loop
 returns c =
     let n = c .before .before .before in
     let i = turn-of (n .before .before) in
-    let d : Done (start i .args .out .now) (n .insert .last .0) (n .insert .result .count) (wanted (start i)) =
-    filling-stop (turn i) (pair-under i) (given (n .before .before)) (n .insert .ensures) (c .if1 .taken) in
-    (d .count, d .bytes)
+    filling-stop (turn i) (pair-under i) (given (n .before .before)) (n .insert .ensures) (c .if1 .taken)
 
 loop-again : tie.Need-loop-again Inv-loop μ-loop
 loop-again c =
@@ -130,10 +128,8 @@ returns-2 : tie.Need-returns-2 Inv-loop μ-loop
 returns-2 c =
     let s = c .before .before .before .before in
     let e : drop (c .before .loop .j) (others s) ≡ [] = records-end (s .args .nb) (c .before .loop .j) (s .args .b .now) (c .loop-test .left) in
-    let d : Done (s .args .out .now) (c .before .loop .out) (c .before .loop .m) (wanted s) =
     filling-done
-    (subst (λ (l : List Focal). Filling (s .args .out .now) (c .before .loop .out) (c .before .loop .m) (rowOf (s .args .op) (own s) l) (wanted s)) e (c .before .loop .inv .1)) in
-    (d .count, d .bytes)
+    (subst (λ (l : List Focal). Filling (s .args .out .now) (c .before .loop .out) (c .before .loop .m) (rowOf (s .args .op) (own s) l) (wanted s)) e (c .before .loop .inv .1))
 
 pub join-row-spec : {M : Type 1} → statement M
 join-row-spec =

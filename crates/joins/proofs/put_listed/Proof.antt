@@ -6,16 +6,16 @@ use native.Mathlib.Omega.{arith}
 use borrow.Author.Needs.{needs}
 use Rattle.theory.specs.Focal.{Focal, focalAt, weights}
 use Rattle.theory.specs.declared.Component.{Component}
-use Rattle.theory.specs.Lists.{InOrder, inserted}
+use Rattle.theory.specs.Lists.{inserted}
 use Rattle.theory.proofs.Collect.{weights-insert}
-use Rattle.records.specs.Records.{records, Under, speedLimit, keyOf, keyed}
+use Rattle.records.specs.Records.{Under, speedLimit, keyOf, keyed}
 use Rattle.records.proofs.Records.{from-key}
-use Rattle.joins.proofs.Holding.{Held, held, length-now, insertable, held-count, held-step}
+use Rattle.joins.proofs.Holding.{Held, held-none, length-now, insertable, held-count, held-step}
 use Rattle.joins.proofs.Listed.{collected, collected-next, collected-short}
 use Rattle.joins.proofs.put_listed.Statement.{statement}
 use Rattle.joins.proofs.put_listed.Tie as tie
 
--- the component as far as its intervals go
+-- The component as far as its intervals go.
 abbrev parts : List ℕ → List ℕ → List ℕ → ℕ → Component
 parts lows highs weights count = record { lows = lows; highs = highs; weights = weights; count = count; total = 0 }
 
@@ -29,9 +29,9 @@ abbrev μ-loop : tie.MeasureT-loop
 abbrev start : tie.In-loop Inv-loop μ-loop → tie.Start Inv-loop μ-loop
 start c = c .before .before .before .before .before .before
 
--- the intervals so far, and the one of this turn
-abbrev sofar : tie.In-loop Inv-loop μ-loop → List Focal
-sofar c = collected (start c .args .c) (c .before .loop .i)
+-- The list so far, and the interval of this turn.
+abbrev so-far : tie.In-loop Inv-loop μ-loop → List Focal
+so-far c = collected (start c .args .c) (c .before .loop .i)
 
 abbrev this : tie.In-loop Inv-loop μ-loop → Focal
 this c = focalAt (start c .args .c) (c .before .loop .i)
@@ -48,26 +48,19 @@ made-is c = λ i. record { low = c .before .before .before .wide .ensures .0 i; 
 this-under : (c : tie.After-wide3 Inv-loop μ-loop) → Under speedLimit (this (turn-of c))
 this-under c = subst (Under speedLimit) (made-is c) (c .before .before .before .wide .ensures .1, c .before .before .wide2 .ensures .1)
 
-light : (c : tie.After-wide3 Inv-loop μ-loop) → this (turn-of c) .weight ≤ 65535
-light c = omega (arith, c .wide3 .ensures)
+weight-small : (c : tie.After-wide3 Inv-loop μ-loop) → this (turn-of c) .weight ≤ 65535
+weight-small c = omega (arith, c .wide3 .ensures)
 
-fits : (c : tie.After-wide3 Inv-loop μ-loop) → weights (sofar (turn-of c)) + this (turn-of c) .weight < 2 ^ 64
-fits c = let i = turn-of c in omega (arith, light c, i .before .loop .inv, i .loop-test .taken, start i .pre)
+fits : (c : tie.After-wide3 Inv-loop μ-loop) → weights (so-far (turn-of c)) + this (turn-of c) .weight < 2 ^ 64
+fits c = let i = turn-of c in omega (arith, weight-small c, i .before .loop .inv, i .loop-test .taken, start i .pre)
 
 given : (c : tie.After-wide3 Inv-loop μ-loop) → keyed (keyOf (made c)) (made c .weight) ≡ this (turn-of c)
 given c = from-key (made c) (c .before .before .wide2 .ensures .1) ∙ made-is c
 
 loop-holds : tie.Need-loop-holds Inv-loop μ-loop
-unfolding records
 loop-holds c =
-    let s = c .before .before .before .before in (
-      omega arith,
-      (
-        omega arith,
-        held (s .args .out .now) 0 0 (λ i. c .before .before .before .slice-known .given i .fits)
-            (record { count = omega arith; room = s .pre .1; ordered = InOrder.none; fits = omega arith }),
-      ),
-    )
+    let s = c .before .before .before .before in
+    (omega arith, (omega arith, held-none (s .args .out .now) (λ i. c .before .before .before .slice-known .given i .fits) (s .pre .1)))
 
 insert-requires : tie.Need-insert-requires Inv-loop μ-loop
 insert-requires c κs =
@@ -80,11 +73,11 @@ loop-again c =
     let w = n .before in
     let i = turn-of w in
     let k : Component = start i .args .c in
-    let e : collected k (i .before .loop .i + 1) ≡ inserted (this i) (sofar i) = collected-next k (i .before .loop .i) in
-    let h : Held _ (i .before .loop .out) (i .before .loop .m) (sofar i) = i .before .loop .inv .1 .1 in (
+    let e : collected k (i .before .loop .i + 1) ≡ inserted (this i) (so-far i) = collected-next k (i .before .loop .i) in
+    let h : Held _ (i .before .loop .out) (i .before .loop .m) (so-far i) = i .before .loop .inv .1 .1 in (
       omega (arith, i .loop-test .taken),
       (
-        rw e (omega (arith, weights-insert (this i) (sofar i), light w, i .before .loop .inv)),
+        rw e (omega (arith, weights-insert (this i) (so-far i), weight-small w, i .before .loop .inv)),
         rw e
             (held-step h (this-under w) (fits w) (given w) (n .insert .ensures)
             (rw (held-count h (this-under w) (fits w) (given w) (n .insert .ensures), ← e) (omega (arith, collected-short k (i .before .loop .i + 1), i .loop-test .taken, start i .pre)))),

@@ -19,7 +19,7 @@ placed s = place (sought s) (records (s .args .n) (s .args .s .now))
 within : (s : tie.Start) → placed s ≤ s .args .n
 within s = place-count (s .args .n) (s .args .s .now) (sought s)
 
--- the test at the hint
+-- The test at the hint.
 above : (c : tie.Then2) → let s = c .before .before .before .before in s .args .hint < placed s
 above c =
     let s = c .before .before .before .before in

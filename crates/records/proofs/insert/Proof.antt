@@ -18,7 +18,7 @@ use Rattle.records.proofs.Inserting.{Inserted, insert-at, insert-in, in
 use Rattle.records.proofs.insert.Statement.{statement}
 use Rattle.records.proofs.insert.Tie as tie
 
--- the interval that goes in, and the bytes at entry
+-- The interval that goes in, and the bytes at entry.
 abbrev new : tie.After-find → Focal
 new c = let a = c .before .before .before .args in keyed (a .key) (a .weight)
 
@@ -34,7 +34,7 @@ found c = let a = c .before .before .before .args in c .find .ensures ∙ place-
 within : (c : tie.After-find) → c .find .result ≤ c .before .before .before .args .n
 within c = omega (arith, found c, place-count (c .before .before .before .args .n) (entry c) (new c))
 
--- where the ways meet the interval is not there
+-- Where the ways meet, the interval is not there.
 absent : (c : tie.Joined1) → c .before .find .result < c .before .before .before .before .args .n
     → isEq (order (recordAt (entry (c .before)) (c .before .find .result)) (new (c .before))) ≡ false
 absent c h = ⊎-elim (λ w. sym (w .2 .ensures) ∙ w .3 .left) (λ w. absurd (omega (arith, w .left))) (c .if1 .came)

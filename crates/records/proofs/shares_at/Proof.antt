@@ -15,7 +15,7 @@ use Rattle.records.proofs.Records.{key-ends, records-next, records-end,
 use Rattle.records.proofs.shares_at.Statement.{statement}
 use Rattle.records.proofs.shares_at.Tie as tie
 
--- a sum of the weights that pass a test is never above the sum of all
+-- The weights that pass a test are never above the sum of all.
 within : (test : ℕ → ℕ → Bool) (l : List Focal) → weightWhere test l ≤ weights l
 within test l = sum-le (λ f. at-most (test (f .low) (f .high)) (f .weight)) l
   where
@@ -39,7 +39,7 @@ list c = records (start c .args .n) (start c .args .s .now)
 abbrev this : tie.In-loop Inv-loop μ-loop → Focal
 this c = recordAt (start c .args .s .now) (c .before .loop .i)
 
--- what each end counts in this turn
+-- Each end counts what it should in this turn.
 ends : (c : tie.After-key-at Inv-loop μ-loop) → (c .key-at .result / speedLimit ≡ this (c .before) .low) × (c .key-at .result % speedLimit ≡ this (c .before) .high)
 ends c =
     let i = c .before in
@@ -52,7 +52,7 @@ high-counts : (c : tie.After-counted2 Inv-loop μ-loop)
     → let i = c .before .before .before .before in c .counted2 .result ≡ cond (leb (start i .args .demand) (this i .high)) (this i .weight) 0
 high-counts c = let w = c .before .before in c .counted2 .ensures ∙ (λ t. cond (leb (start (w .before .before) .args .demand) (ends (w .before) .1 t)) (w .weight-at .ensures t) 0)
 
--- the sums in this turn
+-- The sums go on by what is counted.
 sums : (c : tie.In-loop Inv-loop μ-loop) (test : ℕ → ℕ → Bool) → let i = c .before .loop .i in
     (weightWhere test (drop i (list c)) ≡ cond (test (this c .low) (this c .high)) (this c .weight) 0 + weightWhere test (drop (i + 1) (list c)))
     × (weightWhere test (list c) ≤ weights (list c))
