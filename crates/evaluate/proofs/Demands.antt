@@ -42,7 +42,7 @@ use Rattle.evaluate.specs.Answer.{planOf, components, structure, callTes
 use Rattle.evaluate.specs.Store.{storeBy}
 use Rattle.evaluate.specs.Demands.{Passed, Broken, by-test, by-join, answerAt, answered, after, all, list, Demand-1, Writer, Demand-2, RoundTrips, Demand-3}
 use Rattle.evaluate.proofs.Numbers.{tests-kept, Ended, tested, stopped, passed, ended, answered-by, stored-by}
-use Rattle.evaluate.proofs.Finish.{Within, completes, within, leaves-by, drive-fits, early, late, above, plan-valid}
+use Rattle.evaluate.proofs.Finish.{Within, completes, within, leaves-by, drive-fits, early, late, above, ready}
 
 -- what a call ends in, and what its number says
 module _ (s : List ℕ) (demand allowance room : ℕ) where
@@ -136,7 +136,7 @@ module _ (s : List ℕ) (demand allowance : ℕ) (store : List ℕ) (e : (answer
   pass = demand-1 s demand allowance store .accepted .0 e
 
   valid : Valid (planOf s)
-  valid = plan-valid s demand allowance store (none-broken (pass .tests))
+  valid = ready s store (none-broken (pass .tests)) .valid
 
   leaves : Leaves (components s) (structure s) (pass .stack) (pass .pairs)
   leaves = leaves-by valid allowance (pass .stack) (pass .pairs) (pass .runs)
