@@ -63,7 +63,7 @@ module _ (cs : List Component) (allowance : ℕ) where
 
 -- ---- a plan that keeps the rules
 
--- how the walk on lists ends, and how the evaluation
+-- How the walk on lists ends, and how the evaluation does.
 pub data Ends (cs : List Component) (es : List Entry) : Evaluation (List Focal) → Evaluation Tree → Type 0 where
   stops : {k : ℕ} → (k ≡ 13) ⊎ (k ≡ 14) → Ends cs es (refused k) (refused k)
   leaves-one : {stack : List Tree} {pairs : ℕ} → Leaves cs es stack pairs → Ends cs es (completed (driveList es cs ∷ []) pairs) (completed stack pairs)
@@ -95,13 +95,13 @@ module _ {p : Plan} (valid : Valid p) where
           let one : map (listOf cs) stack ≡ driveList es cs ∷ [] = ap (map (listOf cs)) (left-over .left) ∙ ap (_∷ []) (left-over .list) in
           rw one (leaves-one left-over)
 
-  -- the numbers of the drive's list fit records
+  -- The numbers of the drive's list fit records.
   pub drive-fits : Every (Under speedLimit) (driveList es cs) × (weights (driveList es cs) < 2 ^ 64)
   drive-fits =
       fits-record (fits-drive (valid .inRange) (valid .balanced) (every-map (λ c q. q .1) (valid .totals)) (valid .positive) es entries-are each-once (valid .findTwo))
       (omega (arith, components-count p, valid .most))
 
--- a list that a store holds takes its records' bytes
+-- A list that a store holds takes its records' bytes.
 filled-room : (size : ℕ) (l : List Focal) (s : List ℕ) → recordBytes * length l ≤ length (filled size l s)
 filled-room size l s = simp length-append (omega (arith, length-encode l))
 
@@ -129,7 +129,7 @@ module _ (s : List ℕ) (demand allowance : ℕ) (store : List ℕ) where
   abbrev all : List Focal
   all = outcomes (structure s) (components s)
 
-  -- refused by a test
+  -- A call that a test refuses.
   pub tested-call : (k : ℕ) → firstBroken (callTests s (length store)) ≡ k → (k ≡ 0 → ⊥) → (refusal k ≡ answer s demand allowance (length store)) × (store ≡ storeAfter s allowance store)
   tested-call zero e z = absurd (z refl)
   tested-call (suc k) e z =
@@ -137,7 +137,7 @@ module _ (s : List ℕ) (demand allowance : ℕ) (store : List ℕ) where
       let m : suc k ≤ 12 = omega (arith, tests-most s (length store)) in
       (sym (answered-by s allowance demand (length store) w), sym (stored-by s allowance store w ∙ early (suc k) m _ store))
 
-  -- past the tests: what the run answers, and the store that it leaves
+  -- A call past the tests, by what the run answers and the store that it leaves.
   pub record Finished (r : Ran) (x : List ℕ) : Type 0 where
     pub stored : x ≡ storeAfter s allowance store
     pub refuses : (r .number ≡ 0 → ⊥) → refusal (r .number) ≡ answer s demand allowance (length store)

@@ -41,26 +41,26 @@ use Rattle.run.proofs.Entries.{joinCount, counted}
 use Rattle.run.proofs.Stacked.{Stacked, none, more, Topmost, topmost, fits-record, length-leaf}
 use Rattle.run.proofs.Placing.{Stored, on-top, stored-next}
 
--- the bytes that the lists of so many components and joins may take, each behind the one before it
+-- The bytes that the lists of so many components and joins may take, each behind the one before it.
 abbrev space : ℕ → ℕ → ℕ
 space leaves joins = recordBytes * (mostHeld * leaves + mostIntervals * joins)
 
--- what is left to walk on lists
+-- What is left to walk on lists.
 abbrev walkOn : Plan → ℕ → List Entry → List (List Focal) → ℕ → Evaluation (List Focal)
 walkOn p allowance = walkLists _*_ allowance (leafList p)
 
 pub record Running (p : Plan) (allowance : ℕ) (store₀ : List ℕ) (rest : List Entry) (store : List ℕ) (st : Stack) : Type 0 where
   pub stored : Stored (needed p) store₀ store st
-  -- the lists of the stack, over the components named so far
+  -- The stack holds lists over the components named so far.
   pub held : ℕ
   pub lists : Stacked held (listsBelow store st (st .depth))
   pub height : (st .depth ≤ held) × (held ≤ mostComponents * st .depth)
-  -- what is left: components below n, joins that find two lists, as many entries as leave one list
+  -- The entries left name components below n, have joins that find two lists, and leave one list.
   pub unnamed : held + length (named rest) ≡ p .count
   pub known : Every (Known (p .count)) rest
   pub balance : st .depth + length (named rest) ≡ joinCount rest + 1
   pub two : joinsFindTwo rest (st .depth) ≡ true
-  -- the room: joined lists stay where they are
+  -- There is room for the lists to come; joined ones stay where they are.
   pub room : st .free + space (length (named rest)) (joinCount rest) ≤ space (p .count) (p .count - 1)
   pub allowed : st .pairs ≤ allowance
   pub walks : walkOn p allowance rest (listsBelow store st (st .depth)) (st .pairs) ≡ walked p allowance
@@ -91,7 +91,7 @@ module _ {p : Plan} {store₀ : List ℕ} (ready : Runnable p store₀) {allowan
   pub in-region : {store : List ℕ} {rest : List Entry} {st : Stack} → Running p allowance store₀ rest store st → st .free ≤ storeBytes
   in-region running = omega (arith, running .room, ready .valid .most)
 
-  -- at the end the one list of the stack is what the walk leaves
+  -- At the end the one list of the stack is what the walk leaves.
   pub finished : {store : List ℕ} {st : Stack} → Running p allowance store₀ [] store st
       → (st .depth ≡ 1) × (walked p allowance ≡ completed (listAt store st 0 ∷ []) (st .pairs))
   finished {store = store} {st = st} running =
@@ -192,7 +192,7 @@ module _ {p : Plan} {store₀ : List ℕ} (ready : Runnable p store₀) {allowan
       };
     }
 
-    -- the join's list, the pairs, and what is left to walk
+    -- The join's list, the pairs, and what is left to walk.
     abbrev list : List Focal
     list = topJoined op store st
 
@@ -230,7 +230,7 @@ module _ {p : Plan} {store₀ : List ℕ} (ready : Runnable p store₀) {allowan
           walks = rw top (sym (at-join ∙ rw (le-ltb allowance (spent st) a, le-ltb mostIntervals (length list) b) refl));
         }
 
-    -- as the join ends: the run goes on, or the walk is refused with its number
+    -- As the join ends, the run goes on, or the walk is refused with its number.
     abbrev Out : Step → List ℕ → Type 0
     Out s after = (s .number ≡ 0 → Running p allowance store₀ rest after (s .stack)) × ((s .number ≡ 0 → ⊥) → walked p allowance ≡ refused (s .number))
 
@@ -251,7 +251,7 @@ module _ {p : Plan} {store₀ : List ℕ} (ready : Runnable p store₀) {allowan
             let u : after ≡ holdingFrom store (st .free) list = f ∙ rw (x, fill-made (pairs op (topList store st 2) (topList store st 1)) b) in
             (λ z. rw (t, u) (join-next (ltb-false allowance (spent st) x) b), λ z. absurd (z (ap (λ (r : Step). r .number) t)))
 
-    -- the bytes behind those that the plan needs stay as they were, at a refusal too
+    -- The bytes behind those that the plan needs stay as they were, at a refusal too.
     pub join-later : drop (needed p) (joinStore op allowance store st) ≡ drop (needed p) store₀
     join-later = go (ltb allowance (spent st))
       where

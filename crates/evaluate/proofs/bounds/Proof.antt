@@ -16,7 +16,7 @@ use borrow.Author.Needs.{needs}
 use Rattle.evaluate.proofs.bounds.Statement.{statement}
 use Rattle.evaluate.proofs.bounds.Tie as tie
 
--- past the tests
+-- Past the tests.
 module _ (c : tie.After-tested) where
   abbrev start : tie.Start
   start = c .before .before .before
@@ -39,7 +39,7 @@ module _ (c : tie.After-tested) where
   ready-plan : c .tested .result .number ≡ 0 → Runnable p store
   ready-plan z = subst (λ (q : Plan). Runnable q store) (sym plan-is) (ready sheet store (sym number-is ∙ z))
 
--- past the run
+-- Past the run.
 finished : (c : tie.After-run-plan) → let a = c .before .before .before .before .before in
     Finished (sheet a) (start a .args .demand) (start a .args .allowance) (store a) (c .run-plan .result) (c .run-plan .last .1 .1 .0)
 finished c =
