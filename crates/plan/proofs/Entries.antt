@@ -66,7 +66,7 @@ known-entry n (join op) e = joins
 pub known-component : {n i : ℕ} → Known n (component i) → i < n
 known-component (names h) = h
 
--- And its code fits four bits.
+-- The code of an entry that keeps number 9 fits four bits.
 pub known-fits : (n code : ℕ) → n ≤ mostComponents → Known n (entryOf code) → code < 16
 known-fits n code l k = elim (ℕ-discrete code 8) [
   | yes a ↦ omega arith
@@ -79,7 +79,7 @@ known-fits n code l k = elim (ℕ-discrete code 8) [
   ]
 ]
 
--- Places of lists that count.
+-- The places of a list that counts.
 getD-count : (k n i : ℕ) → i < n → getD (countFrom k n) i 0 ≡ k + i
 getD-count k zero i h = absurd (omega arith)
 getD-count k (suc n) zero h = omega arith
@@ -138,7 +138,7 @@ entries-next s j m h = rw (from-next j m h)
 pub entries-end : (s : List ℕ) (j m : ℕ) → m ≤ j → entriesFrom s j m ≡ []
 entries-end s j m h = rw (from-end j m h)
 
--- What one entry adds to the names.
+-- What one entry adds to the components that are named.
 pub names-next : (i : ℕ) (e : Entry) (es : List Entry) → countOf i (named (e ∷ es)) ≡ countOf i (named (e ∷ [])) + countOf i (named es)
 names-next i (component k) es = omega arith
 names-next i (join op) es = omega arith

@@ -1,6 +1,6 @@
 -- What it means that no element of a list passes a test. Assumes nothing.
 use borrow.Author.Tests.{ltb-false, le-ltb}
-use mathlib.Core.Path.{_≡_, refl, sym, subst}
+use mathlib.Core.Path.{_≡_, refl, sym, ap, subst, _∙_}
 use mathlib.Core.Bool.{Bool, true, false, _||_, or-false, or-true, or-assoc}
 use mathlib.Core.List.{List, [], _∷_, map}
 use Prim.Native.Nat.{ℕ, zero, suc, _+_, _≤_, _<_}
@@ -27,10 +27,6 @@ module _ {A B : Type 0} where
   any-map f g [] = refl
   any-map f g (x ∷ l) = rw (any-map f g l)
 
-  pub every-map : {P : B → Type 0} {l : List A} (g : A → B) → Every (λ x. P (g x)) l → Every P (map g l)
-  every-map g none = none
-  every-map g (more h hs) = more h (every-map g hs)
-
 -- A test of each number below n.
 pub any-below : (f : ℕ → Bool) (k n i : ℕ) → anyOf f (countFrom k n) ≡ false → k ≤ i → i < k + n → f i ≡ false
 any-below f k zero i e a b = absurd (omega arith)
@@ -47,8 +43,8 @@ map-below f g k zero h = refl
 map-below f g k (suc n) h = rw (h k (omega arith) (omega arith), map-below f g (suc k) n (λ i a b. h i (omega arith) (omega arith)))
 
 pub any-alike : (f g : ℕ → Bool) (k n : ℕ) → ((i : ℕ) → k ≤ i → i < k + n → f i ≡ g i) → anyOf f (countFrom k n) ≡ anyOf g (countFrom k n)
-any-alike f g k zero h = refl
-any-alike f g k (suc n) h = rw (h k (omega arith) (omega arith), any-alike f g (suc k) n (λ i a b. h i (omega arith) (omega arith)))
+any-alike f g k n h =
+    sym (any-map (λ b. b) f (countFrom k n)) ∙ ap (anyOf (λ b. b)) (map-below f g k n h) ∙ any-map (λ b. b) g (countFrom k n)
 
 pub any-at : (f : ℕ → Bool) (k n i : ℕ) → k ≤ i → i < k + n → f i ≡ true → anyOf f (countFrom k n) ≡ true
 any-at f k zero i a b e = absurd (omega arith)

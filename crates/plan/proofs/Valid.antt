@@ -13,13 +13,14 @@ use Rattle.theory.specs.Limits.{topSpeed, mostHeld, mostTotal, mostComponents}
 use Rattle.theory.specs.declared.Entry.{Entry}
 use Rattle.theory.specs.Structure.{named, NamedOnce}
 use Rattle.theory.specs.declared.Component.{Component}
+use Rattle.theory.proofs.Every.{every-image}
 use Rattle.block.proofs.Laws.{neither}
 use Rattle.plan.specs.declared.Plan.{Plan}
 use Rattle.plan.specs.Tests.{firstBroken, anyOf, Unbroken}
 use Rattle.plan.specs.Plan.{componentAt, componentsOf, entriesOf}
 use Rattle.plan.specs.Rules.{rule3, badCount, rule4, badTotal, badAlone, badInterval, badIntervals, badSum, badEntry, rule9, badNaming, rule10, rule11, rules, Counted, Sized}
 use Rattle.plan.specs.Valid.{Known, names, joins, Valid}
-use Rattle.plan.proofs.Tests.{every-failed, every-map, any-below, any-map, within}
+use Rattle.plan.proofs.Tests.{every-failed, any-below, any-map, within}
 use Rattle.plan.proofs.Numbers.{no-number}
 use Rattle.plan.proofs.Entries.{known-entry, entries-count}
 
@@ -39,7 +40,7 @@ sized p e₃ e₄ =
           within 1 mostHeld ((componentAt p i) .count) (any-below (λ j. badCount (componentAt p j)) 0 (p .count) i f (omega arith) (omega arith)) .1;
     }
 
--- Rule 7, of an interval.
+-- What rule 7 leaves of an interval.
 module _ (c : Component) (j : ℕ) (e : badInterval c j ≡ false) where
   alone : (ltb (focalAt c j .high) (focalAt c j .low) || ltb topSpeed (focalAt c j .high) ≡ false) × (eqb (focalAt c j .weight) 0 ≡ false)
   alone = neither _ _ (neither (badAlone (focalAt c j)) _ e .0)
@@ -51,6 +52,9 @@ module _ (c : Component) (j : ℕ) (e : badInterval c j ≡ false) where
 
   weight-above : Positive (focalAt c j)
   weight-above = omega (arith, eqb-false (focalAt c j .weight) 0 (alone .1))
+
+kept : (c : Component) → badIntervals c ≡ false → Every (λ j. badInterval c j ≡ false) (countFrom 0 (c .count))
+kept c h = every-failed (badInterval c) (countFrom 0 (c .count)) (λ j e. e) h
 
 -- Rules 9 and 10: no entry names a component that is not there, and each that is there is named once.
 none-above : {n : ℕ} {es : List Entry} (i : ℕ) → n ≤ i → Every (Known n) es → countOf i (named es) ≡ 0
@@ -81,8 +85,8 @@ valid p e₃ e₄ e = go (no-number 11 (rules p) refl e)
           most = n .most;
           counts = every-failed badCount cs (λ c. within 1 mostHeld (c .count)) e₄;
           totals = every-failed badTotal cs (λ c. within 1 mostTotal (c .total)) e₆;
-          inRange = every-failed badIntervals cs (λ c h. every-map (focalAt c) (every-failed (badInterval c) (countFrom 0 (c .count)) (in-range c) h)) e₇;
-          positive = every-failed badIntervals cs (λ c h. every-map (focalAt c) (every-failed (badInterval c) (countFrom 0 (c .count)) (weight-above c) h)) e₇;
+          inRange = every-failed badIntervals cs (λ c h. every-image (focalAt c) (in-range c) (kept c h)) e₇;
+          positive = every-failed badIntervals cs (λ c h. every-image (focalAt c) (weight-above c) (kept c h)) e₇;
           balanced = every-failed badSum cs (λ c h. eqb-true _ _ (not-false _ h)) e₈;
           known = known;
           namedOnce = named-once (p .count) es known e₁₀;

@@ -58,7 +58,7 @@ noFlaws = record { six = false; seven = false; eight = false }
 abbrev pub flawsOf : Component → Flaws
 flawsOf c = record { six = badTotal c; seven = badIntervals c; eight = badSum c }
 
--- Which of them anyOf component of a list breaks.
+-- Which of 6, 7 and 8 some component of a list breaks.
 abbrev pub flawsIn : List Component → Flaws
 flawsIn cs = record { six = anyOf badTotal cs; seven = anyOf badIntervals cs; eight = anyOf badSum cs }
 

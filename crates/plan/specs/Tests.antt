@@ -33,7 +33,7 @@ abbrev pub outside : ℕ → ℕ → ℕ → Bool
 outside lowest highest x = ltb x lowest || ltb highest x
 
 module _ {A : Type 0} where
-  -- AnyOf element of a list passes a test.
+  -- Some element of a list passes a test.
   abbrev pub anyOf : (A → Bool) → List A → Bool
   anyOf f [] = false
   anyOf f (x ∷ xs) = f x || anyOf f xs

@@ -24,6 +24,19 @@ pub struct Plan {
     pub entries: [u8; theory::MOST_ENTRIES],
 }
 
+// The edition of a sheet, and the widths of its fields outside the blocks: specs/Sheet.antt has them with document 01's words.
+pub const HEAD_BYTES: usize = 2;
+
+pub const EDITION: u32 = 1;
+
+pub const EDITION_BITS: usize = 4;
+
+pub const COMPONENT_BITS: usize = 4;
+
+pub const LENGTH_BITS: usize = 8;
+
+pub const ENTRY_BITS: usize = 4;
+
 // The codes of the joins.
 pub const SERIES_CODE: u8 = 8;
 
@@ -199,7 +212,7 @@ pub fn either_flaws(a: Flaws, b: Flaws) -> Flaws
     }
 }
 
-// By anyOf component of a plan.
+// The flaws of the components of a plan.
 pub fn plan_flaws(p: Plan) -> Flaws
     requires { ⌜ Sized p ⌝ }
     ensures { λ r. ⌜ r ≡ flawsIn (componentsOf p) ⌝ }

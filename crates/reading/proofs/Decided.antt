@@ -86,7 +86,7 @@ sound s e = go (no-number 11 (sheetTests s) refl (sym (read-number s) ∙ e))
           others = es;
         }
 
--- A rule that no component of the plan breaks, of one block.
+-- A rule that no component of the plan breaks is kept by each block.
 block-keeps : (s : List ℕ) → Sound s → (f : Component → Bool) → anyOf f (componentsOf (planIn s)) ≡ false → (i : ℕ) → i < componentCount s
     → f (componentIn (blockAt s i)) ≡ false
 block-keeps s a f e i l =

@@ -39,7 +39,7 @@ module _ (s : List ℕ) where
   unfolding headIn
   head-count e = rw e
 
--- What a sheet has that keeps 1, 2 and 3.
+-- What a sheet that keeps 1, 2 and 3 has.
 pub record Headed (s : List ℕ) : Type 0 where
   pub kept : Every Unbroken (headTests s)
   pub long : 2 ≤ length s
@@ -69,7 +69,7 @@ unfolding planIn
 components-are s l =
     map-below (componentAt (planIn s)) (λ i. componentIn (blockAt s i)) 0 (componentCount s) (λ i a b. component-is s i (omega arith) l)
 
--- 4 and 5, as they are tested of n blocks that were read up to byte e.
+-- The tests 4 and 5 of n blocks that were read up to byte e.
 abbrev pub layoutBy : List ℕ → ℕ → Bool → Bool → ℕ → List Test
 layoutBy s n cut nonzero e =
     test 4 (cut || not (eqb (e + n) (length s)))
@@ -100,13 +100,13 @@ module _ (s : List ℕ) (n : ℕ) (en : n ≡ componentCount s) where
       let b = neither (anyCut s (componentCount s)) (not (eqb (startOf s (componentCount s) + componentCount s) (length s))) z in
       (rw en (b .0), rw en (eqb-true _ _ (not-false _ (b .1))))
 
-  -- Of blocks of which none is cut short.
+  -- What is read where no block is cut short.
   module _ (r : Blocks) (w : r ≡ uncutBlocks s n) (es : List ℕ) (d : es ≡ entriesAt s (8 * r .end) (entryCount n)) where
     pub plan-read : _≡_ {A = Plan} (record { components = r .components; count = n; entries = es }) (planIn s)
     unfolding planIn
     plan-read = rw (d, w, ← en)
 
-    -- 6 to 11 of it, where 6, 7 and 8 were tested block by block.
+    -- The tests 6 to 11 of that plan, where 6, 7 and 8 were tested block by block.
     pub rules-read : n ≤ mostComponents → flawTests (r .flaws) ++ structureTests n (structureIn es n) ≡ rules (planIn s)
     unfolding planIn
     rules-read l = rw (d, w, components-are s (rw (← en) l), ← en)

@@ -14,6 +14,7 @@ use Rattle.block.specs.Rows.{row}
 use Rattle.block.specs.Block.{sizeOf, countIn, cutShort, badZeroBits, zeroComponent, componentIn}
 use Rattle.plan.specs.declared.Plan.{Plan}
 use Rattle.plan.specs.Tests.{Test, test, firstBroken, anyOf, Unbroken, First}
+use Rattle.plan.specs.Sheet.{headBytes, edition, editionBits, componentBits, lengthBits, entryBits}
 use Rattle.plan.specs.Plan.{zeroPlan}
 use Rattle.plan.specs.Rules.{rule3, noFlaws, flawsOf, flawsIn, flawTests, rules, Counted}
 use Rattle.reading.specs.declared.Head.{Head}
@@ -22,26 +23,26 @@ use Rattle.reading.specs.declared.Reading.{Reading}
 
 -- The edition in a sheet's head.
 abbrev pub editionIn : List ℕ → ℕ
-editionIn s = fieldAt s 0 4
+editionIn s = fieldAt s 0 editionBits
 
--- The component count n there.
+-- The component count n in the head.
 abbrev pub componentCount : List ℕ → ℕ
-componentCount s = fieldAt s 4 4
+componentCount s = fieldAt s editionBits componentBits
 
--- The sheet length in bytes there: the length byte.
+-- The sheet length in bytes in the head: the length byte.
 abbrev pub lengthIn : List ℕ → ℕ
-lengthIn s = fieldAt s 8 8
+lengthIn s = fieldAt s (editionBits + componentBits) lengthBits
 
 -- The byte at which block i starts: behind the head, then each behind the one before it.
 unfoldable pub startOf : List ℕ → ℕ → ℕ
-startOf s zero = 2
+startOf s zero = headBytes
 startOf s (suc i) = startOf s i + sizeOf (countIn (drop (startOf s i) s))
 
 -- Block i, and the rest of the sheet behind it.
 abbrev pub blockAt : List ℕ → ℕ → List ℕ
 blockAt s i = drop (startOf s i) s
 
--- The bit at which the structure starts; entry j stands 4 j bits on, and the last four bits behind the last entry.
+-- The bit at which the structure starts.
 abbrev pub structurePlace : List ℕ → ℕ
 structurePlace s = 8 * startOf s (componentCount s)
 
@@ -54,7 +55,7 @@ componentsIn s n = row zeroComponent mostComponents (λ i. componentIn (blockAt 
 
 -- The m codes from bit a on, with zero in the unused places.
 abbrev pub entriesAt : List ℕ → ℕ → ℕ → List ℕ
-entriesAt s a m = row 0 mostEntries (λ j. fieldAt s (a + 4 * j) 4) m
+entriesAt s a m = row 0 mostEntries (λ j. fieldAt s (a + entryBits * j) entryBits) m
 
 -- The plan that a sheet's fields spell.
 unfoldable pub planIn : List ℕ → Plan
@@ -67,11 +68,11 @@ planIn s =
 
 -- 1. The sheet has fewer than 2 bytes, or its length byte is not its length.
 abbrev pub badLength : List ℕ → Bool
-badLength s = ltb (length s) 2 || not (eqb (lengthIn s) (length s))
+badLength s = ltb (length s) headBytes || not (eqb (lengthIn s) (length s))
 
 -- 2. The edition is not 1.
 abbrev pub badEdition : List ℕ → Bool
-badEdition s = not (eqb (editionIn s) 1)
+badEdition s = not (eqb (editionIn s) edition)
 
 -- One of the first n blocks is cut short or its k is not 1 to 8.
 abbrev pub anyCut : List ℕ → ℕ → Bool
@@ -88,7 +89,7 @@ anyNonzero s n = anyOf (λ i. badZeroBits (blockAt s i)) (countFrom 0 n)
 -- 5. A bit named zero is one, in a block or in the last four bits.
 unfoldable pub badZeros : List ℕ → Bool
 badZeros s =
-    anyNonzero s (componentCount s) || not (eqb (fieldAt s (structurePlace s + 4 * entryCount (componentCount s)) 4) 0)
+    anyNonzero s (componentCount s) || not (eqb (fieldAt s (structurePlace s + entryBits * entryCount (componentCount s)) entryBits) 0)
 
 -- The tests 1 to 3, of the head.
 abbrev pub headTests : List ℕ → List Test

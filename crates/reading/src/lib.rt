@@ -4,9 +4,16 @@ ghost use Prim.Native.Nat.{_+_, _*_, _≤_};
 ghost use lib.ListN.{length};
 ghost use Rattle.theory.specs.Limits.{mostComponents, mostEntries};
 ghost use Rattle.plan.specs.Tests.{firstBroken};
+ghost use Rattle.plan.specs.Sheet.{headBytes, entryBits};
 ghost use Rattle.plan.specs.Plan.{zeroPlan};
 ghost use Rattle.reading.specs.Reading.{entriesAt, noBlocks, blocksIn, head, headIn, layoutTests, Told, readOf};
+use plan::COMPONENT_BITS;
+use plan::EDITION;
+use plan::EDITION_BITS;
+use plan::ENTRY_BITS;
 use plan::Flaws;
+use plan::HEAD_BYTES;
+use plan::LENGTH_BITS;
 use plan::Plan;
 use theory::Component;
 
@@ -52,13 +59,13 @@ fn read_head(sheet: &[u8]) -> Head
     ensures { λ r. ⌜ r ≡ headIn (now (sheet .entry)) ⌝ }
 {
     let len = sheet.len();
-    if len < 2 {
+    if len < HEAD_BYTES {
         return head_of(1, 0);
     }
-    let head = reader::three(sheet, 0, 4, 4, 8);
+    let head = reader::three(sheet, 0, EDITION_BITS, COMPONENT_BITS, LENGTH_BITS);
     let n = head.second as usize;
     let three = plan::first(3, plan::is_outside(1, theory::MOST_COMPONENTS, n), 0);
-    let two = plan::first(2, head.first != 1, three);
+    let two = plan::first(2, head.first != EDITION, three);
     head_of(plan::first(1, head.third as usize != len, two), n)
 }
 
@@ -78,14 +85,14 @@ fn no_blocks() -> Blocks
 
 // The first n blocks of a sheet. Each is read from its own start, as a part of the sheet, and its component is tested at once.
 fn read_blocks(sheet: &[u8], n: usize) -> Blocks
-    requires { ⌜ (n ≤ mostComponents) × (2 ≤ length (now sheet)) ⌝ }
+    requires { ⌜ (n ≤ mostComponents) × (headBytes ≤ length (now sheet)) ⌝ }
     ensures { λ r. ⌜ r ≡ blocksIn (now (sheet .entry)) n ⌝ }
 {
     let c = block::zero_component();
     let mut components = [c; theory::MOST_COMPONENTS];
     let mut nonzero = false;
     let mut flaws = plan::no_flaws();
-    let mut end: usize = 2;
+    let mut end: usize = HEAD_BYTES;
     for i in 0..n {
         let b = block::read_block(&sheet[end..]);
         if b.cut {
@@ -108,12 +115,12 @@ fn read_blocks(sheet: &[u8], n: usize) -> Blocks
 
 // The m codes from bit `place` on.
 fn read_entries(sheet: &[u8], place: usize, m: usize) -> [u8; theory::MOST_ENTRIES]
-    requires { ⌜ (m ≤ mostEntries) × (place + 4 * m ≤ 8 * length (now sheet)) × (place + 4 * m ≤ 65536) ⌝ }
+    requires { ⌜ (m ≤ mostEntries) × (place + entryBits * m ≤ 8 * length (now sheet)) × (place + entryBits * m ≤ 65536) ⌝ }
     ensures { λ r. ⌜ r ≡ entriesAt (now (sheet .entry)) place m ⌝ }
 {
     let mut entries = [0u8; theory::MOST_ENTRIES];
     for j in 0..m {
-        entries[j] = reader::one(sheet, place + 4 * j, 4) as u8;
+        entries[j] = reader::one(sheet, place + ENTRY_BITS * j, ENTRY_BITS) as u8;
     }
     entries
 }
@@ -130,7 +137,7 @@ fn layout_number(sheet: &[u8], n: usize, cut: bool, nonzero: bool, end: usize) -
         return 4;
     }
     let m = plan::entry_count(n);
-    let last = reader::one(sheet, 8 * end + 4 * m, 4);
+    let last = reader::one(sheet, 8 * end + ENTRY_BITS * m, ENTRY_BITS);
     plan::first(5, plan::either(nonzero, last != 0), 0)
 }
 

@@ -139,7 +139,7 @@ module _ (p : Plan) (room : ℕ) where
       three true e = rw e
       three false e = four (within 1 mostComponents (p .count) e .1) (rule4 (componentsOf p)) refl
 
-  -- Where it is accepted.
+  -- What is the same where the plan is accepted.
   module _ (e : numberOf p room ≡ 0) where
     most : p .count ≤ mostComponents
     most = within 1 mostComponents (p .count) (number-accepts p room e .three) .1

@@ -55,7 +55,7 @@ module _ (p : Plan) (room : ℕ) (e : (writtenOf p room) .number ≡ 0) where
   sized-plan : Sized p
   sized-plan = sized p (accepted .three) (accepted .four)
 
-  -- It answers the sheet's length.
+  -- An accepted plan is answered with its sheet's length.
   pub written-sheet : writtenOf p room ≡ record { number = 0; length = lengthOf p }
   written-sheet = written-length p room (sym (written-number p room) ∙ e)
 

@@ -10,12 +10,13 @@ use Rattle.block.specs.Block.{sizeOf, fieldsOf}
 use Rattle.plan.specs.declared.Plan.{Plan}
 use Rattle.writing.specs.declared.Written.{Written}
 use Rattle.plan.specs.Tests.{Test, test, firstBroken}
+use Rattle.plan.specs.Sheet.{headBytes, edition, editionBits, componentBits, lengthBits, entryBits}
 use Rattle.plan.specs.Plan.{componentsOf, codesOf, cleanedPlan}
 use Rattle.plan.specs.Rules.{rule3, rule4, rules}
 
 -- The byte behind the last block: head, then the blocks.
 abbrev pub endOf : Plan → ℕ
-endOf p = 2 + sumBy (λ c. sizeOf (c .count)) (componentsOf p)
+endOf p = headBytes + sumBy (λ c. sizeOf (c .count)) (componentsOf p)
 
 -- The bytes of a plan's sheet: behind the blocks, a byte of structure for each component.
 unfoldable pub lengthOf : Plan → ℕ
@@ -23,21 +24,21 @@ lengthOf p = endOf p + p .count
 
 -- The head as fields: edition 1, n, the length.
 abbrev pub headFields : ℕ → ℕ → List Field
-headFields n len = bits 4 1 ∷ bits 4 n ∷ bits 8 len ∷ []
+headFields n len = bits editionBits edition ∷ bits componentBits n ∷ bits lengthBits len ∷ []
 
--- The blocks.
+-- The blocks as fields.
 abbrev pub blockFields : Plan → List Field
 blockFields p = forEach (componentsOf p) fieldsOf
 
--- The structure: the codes, then four zero bits.
+-- The structure as fields: the codes, then four zero bits.
 abbrev pub structureFields : Plan → List Field
-structureFields p = map (bits 4) (codesOf p) ++ (bits 4 0 ∷ [])
+structureFields p = map (bits entryBits) (codesOf p) ++ (bits entryBits 0 ∷ [])
 
 -- The sheet of a plan, as fields in a row.
 unfoldable pub sheetFields : Plan → List Field
 sheetFields p = headFields (p .count) (lengthOf p) ++ (blockFields p ++ structureFields p)
 
--- 3 and 4 (only k) of a plan.
+-- The tests 3 and 4 (only k) of a plan.
 abbrev pub sizeTests : Plan → List Test
 sizeTests p = test 3 (rule3 (p .count)) ∷ test 4 (rule4 (componentsOf p)) ∷ []
 
@@ -45,7 +46,7 @@ sizeTests p = test 3 (rule3 (p .count)) ∷ test 4 (rule4 (componentsOf p)) ∷ 
 abbrev pub planTests : Plan → ℕ → List Test
 planTests p room = sizeTests p ++ (rules p ++ (test 15 (ltb room (lengthOf p)) ∷ []))
 
--- The least of them that applies to a plan and a buffer of room bytes, or 0.
+-- The least of the writer's numbers that applies to a plan and a buffer of room bytes, or 0.
 abbrev pub numberOf : Plan → ℕ → ℕ
 numberOf p room = firstBroken (planTests p room)
 

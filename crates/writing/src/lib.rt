@@ -4,9 +4,16 @@ ghost use Prim.Native.Nat.{_+_, _*_, _≤_};
 ghost use mathlib.Core.List.{map};
 ghost use lib.ListN.{length};
 ghost use Rattle.field.specs.Fields.{bits, putAll};
+ghost use Rattle.plan.specs.Sheet.{headBytes, entryBits};
 ghost use Rattle.plan.specs.Plan.{codesIn};
 ghost use Rattle.plan.specs.Rules.{Counted, Sized};
 ghost use Rattle.writing.specs.Writing.{endOf, lengthOf, blockFields, sheetFields, writtenOf, bytesAfter};
+use plan::COMPONENT_BITS;
+use plan::EDITION;
+use plan::EDITION_BITS;
+use plan::ENTRY_BITS;
+use plan::HEAD_BYTES;
+use plan::LENGTH_BITS;
 use plan::Plan;
 
 // What writing a plan comes to: the number of the refusal and length 0, or 0 and the sheet's length.
@@ -30,7 +37,7 @@ fn sheet_length(p: Plan) -> usize
     ensures { λ r. ⌜ r ≡ lengthOf p ⌝ }
 {
     let n = p.count;
-    let mut end: usize = 2;
+    let mut end: usize = HEAD_BYTES;
     for i in 0..n {
         let c = p.components[i];
         end += block::block_size(c.count);
@@ -68,10 +75,10 @@ fn test_plan(p: Plan, room: usize) -> Written
 fn put_blocks(out: &mut [u8], p: Plan)
     requires { ⌜ Sized p ⌝ }
     requires { ⌜ endOf p ≤ length (now out) ⌝ }
-    ensures { λ _. ⌜ now (out .exit) ≡ putAll (now (out .entry)) 16 (blockFields p) ⌝ }
+    ensures { λ _. ⌜ now (out .exit) ≡ putAll (now (out .entry)) (8 * headBytes) (blockFields p) ⌝ }
 {
     let n = p.count;
-    let mut end: usize = 2;
+    let mut end: usize = HEAD_BYTES;
     for i in 0..n {
         let c = p.components[i];
         block::write_block(&mut out[end..], c);
@@ -83,11 +90,11 @@ fn put_blocks(out: &mut [u8], p: Plan)
 fn put_entries(out: &mut [u8], place: usize, entries: [u8; theory::MOST_ENTRIES], n: usize)
     requires { ⌜ Counted n ⌝ }
     requires { ⌜ (place + 8 * n ≤ 8 * length (now out)) × (place + 8 * n ≤ 65536) ⌝ }
-    ensures { λ _. ⌜ now (out .exit) ≡ putAll (now (out .entry)) place (map (bits 4) (codesIn entries n)) ⌝ }
+    ensures { λ _. ⌜ now (out .exit) ≡ putAll (now (out .entry)) place (map (bits entryBits) (codesIn entries n)) ⌝ }
 {
     let m = plan::entry_count(n);
     for j in 0..m {
-        field::put_field(out, place + 4 * j, 4, entries[j] as u32);
+        field::put_field(out, place + ENTRY_BITS * j, ENTRY_BITS, entries[j] as u32);
     }
 }
 
@@ -100,10 +107,24 @@ fn put_sheet(out: &mut [u8], p: Plan, len: usize)
     let n = p.count;
     let entries = p.entries;
     let place = 8 * (len - n);
-    field::put_three(out, 0, 4, 1, 4, n as u32, 8, len as u32);
+    field::put_three(
+        out,
+        0,
+        EDITION_BITS,
+        EDITION,
+        COMPONENT_BITS,
+        n as u32,
+        LENGTH_BITS,
+        len as u32,
+    );
     put_blocks(out, p);
     put_entries(out, place, entries, n);
-    field::put_field(out, place + 4 * plan::entry_count(n), 4, 0);
+    field::put_field(
+        out,
+        place + ENTRY_BITS * plan::entry_count(n),
+        ENTRY_BITS,
+        0,
+    );
 }
 
 // The sheet of a plan at the front of out; where the plan is refused, out stays as it is.

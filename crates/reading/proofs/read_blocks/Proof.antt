@@ -45,7 +45,7 @@ module _ (c : tie.After-read-block Inv-loop μ-loop) where
   found =
       c .read-block .ensures ∙ ap blockIn (rest sheet (c .before .before .before .loop .end)) ∙ ap (λ e. blockIn (drop e sheet)) end-is
 
-  -- It lies within the sheet.
+  -- The block that was read lies within the sheet.
   within-sheet : c .before .before .before .loop .end + c .read-block .result .size ≤ length sheet
   within-sheet = rw end-is (block-fits sheet i (c .read-block .result) found (omega (arith, end-is)))
 
