@@ -29,7 +29,7 @@ length-answer : (a : Answer) → length (encodeAnswer a) ≡ answerBytes
 unfolding encodeAnswer
 length-answer a = simp (length-append, eight-bytes)
 
--- a number at the front, and what stands behind it
+-- A number at the front is read back, and so is what stands behind it.
 read-front : (v : ℕ) (s : List ℕ) → v < 2 ^ 64 → numberAt (bigEndian 8 v ++ s) 0 8 ≡ v
 read-front v s h = ap (onto 0) (take-at (bigEndian 8 v) s 8 (eight-bytes v)) ∙ read-back 8 v h
 
@@ -40,7 +40,7 @@ read-behind v s k =
 -- ---- the two ways
 
 module _ (sheet : List ℕ) (demand allowance : ℕ) (list buffer : List ℕ) where
-  -- what the three definitions come to, by whether the answer buffer is too short
+  -- What the three definitions come to, by whether the answer buffer is too short.
   abbrev By : Bool → Type 0
   By b =
       (numberReturned sheet demand allowance list buffer ≡ (answer sheet demand allowance (cond b 0 (length list))) .number)
@@ -85,8 +85,12 @@ module _ (sheet : List ℕ) (demand allowance : ℕ) (list buffer : List ℕ) wh
           total-read = rw all (read-front (a .total) b2 (fits .total));
           belief-read = rw all (read-behind (a .total) b2 0 ∙ read-front (a .belief) b3 (fits .belief));
           plausibility-read = rw all (read-behind (a .total) b2 8 ∙ (read-behind (a .belief) b3 0 ∙ read-front (a .plausibility) b4 (fits .plausibility)));
-          pairs-read = rw all (read-behind (a .total) b2 16 ∙ (read-behind (a .belief) b3 8 ∙ (read-behind (a .plausibility) b4 0 ∙ read-front (a .pairs) b5 (fits .pairs))));
-          intervals-read = rw all (read-behind (a .total) b2 24 ∙ (read-behind (a .belief) b3 16 ∙ (read-behind (a .plausibility) b4 8 ∙ (read-behind (a .pairs) b5 0 ∙ read-front (a .intervals) (drop answerBytes buffer) (fits .intervals)))));
+          pairs-read =
+              rw all (read-behind (a .total) b2 16 ∙ (read-behind (a .belief) b3 8 ∙ (read-behind (a .plausibility) b4 0
+              ∙ read-front (a .pairs) b5 (fits .pairs))));
+          intervals-read =
+              rw all (read-behind (a .total) b2 24 ∙ (read-behind (a .belief) b3 16 ∙ (read-behind (a .plausibility) b4 8
+              ∙ (read-behind (a .pairs) b5 0 ∙ read-front (a .intervals) (drop answerBytes buffer) (fits .intervals)))));
           later-kept = ap (drop answerBytes) (way .2) ∙ drop-at (encodeAnswer a) (drop answerBytes buffer) answerBytes (length-answer a);
         };
   }

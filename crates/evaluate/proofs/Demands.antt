@@ -42,10 +42,25 @@ use Rattle.evaluate.specs.Answer.{planOf, components, structure, callTes
 use Rattle.evaluate.specs.Store.{storeBy}
 use Rattle.evaluate.specs.Demands.{Passed, Broken, by-test, by-join, answerAt, answered, after, all, list, Demand-1, Writer, Demand-2, RoundTrips, Demand-3}
 use Rattle.evaluate.proofs.Numbers.{tests-kept, Ended, tested, stopped, passed, ended, answered-by, stored-by}
-use Rattle.evaluate.proofs.Finish.{Within, completes, within, leaves-by, drive-fits, early, late, above, plan-valid}
+use Rattle.evaluate.proofs.Finish.{Within, completes, within, leaves-by, drive-fits, early, late, above, ready}
 
--- what a call ends in, and what its number says
-module _ (s : List ℕ) (demand allowance room : ℕ) where
+-- Equal functions over an equal whole have the same bounds.
+bounds-of : {es : List Entry} {cs : List Component} {v w : ℕ} {f g h k : ℕ → ℕ} → v ≡ w → ((d : ℕ) → f d ≡ h d) → ((d : ℕ) → g d ≡ k d)
+    → Bounds es cs v f g → Bounds es cs w h k
+bounds-of {es} {cs} {v} {w} {f} {g} {h} {k} e p q b = record {
+  least = λ D d. rw (← p d, ← e) (b .least D d);
+  greatest = λ D d. rw (← q d, ← e) (b .greatest D d);
+  least-met = (b .least-met .0, λ d. rw (← p d, ← e) (b .least-met .1 d));
+  greatest-met = (b .greatest-met .0, λ d. rw (← q d, ← e) (b .greatest-met .1 d));
+  least-tight = λ d a c t. rw (← p d, ← e) (b .least-tight d a c t);
+  greatest-tight = λ d a c t. rw (← q d, ← e) (b .greatest-tight d a c t);
+}
+
+-- A call: what it ends in, and what its number says.
+module _ (s : List ℕ) (demand allowance : ℕ) (store : List ℕ) where
+  abbrev room : ℕ
+  room = length store
+
   abbrev numberOf : Evaluation Tree → ℕ
   numberOf v = (answerOf v (structure s) (components s) demand) .number
 
@@ -54,7 +69,7 @@ module _ (s : List ℕ) (demand allowance room : ℕ) where
   was-passed (stopped {k = k} z l q) e = absurd (omega (arith, above k l))
   was-passed (passed {stack = stack} {pairs = pairs} z q) e = record { tests = tests-kept s room z; stack = stack; pairs = pairs; runs = q }
 
-  pub passes : (pass : Passed s allowance room) → ending s allowance room ≡ completed (pass .stack) (pass .pairs)
+  passes : (pass : Passed s allowance room) → ending s allowance room ≡ completed (pass .stack) (pass .pairs)
   passes pass = rw (none-broken (pass .tests), pass .runs)
 
   was-broken : (k : ℕ) → 0 < k → {v : Evaluation Tree} → Ended s allowance room v → numberOf v ≡ k → Broken s allowance room k
@@ -74,34 +89,95 @@ module _ (s : List ℕ) (demand allowance room : ℕ) where
   zeros k h (refused n) e = ap refusal e
   zeros k h (completed stack pairs) e = absurd (omega arith)
 
-  module _ (size : ℕ) (l : List Focal) (store : List ℕ) (k : ℕ) where
-    store-late : (k ≡ 13) ⊎ (k ≡ 14) → {v : Evaluation Tree} → Ended s allowance room v → numberOf v ≡ k → storeBy v size l store ≡ cleared size store
-    store-late m (tested h b z) e = absurd (omega (arith, above k m))
-    store-late m (stopped {k = n} z b q) e = late n b (cleared size store) store
-    store-late m (passed z q) e = absurd (omega (arith, above k m))
+  -- The store as it then is.
+  abbrev size : ℕ
+  size = needed (planOf s)
 
-    store-kept : 0 < k → (k ≡ 13 → ⊥) → (k ≡ 14 → ⊥) → {v : Evaluation Tree} → Ended s allowance room v → numberOf v ≡ k → storeBy v size l store ≡ store
-    store-kept h a b (tested {k = n} i m z) e = early n m (cleared size store) store
-    store-kept h a b (stopped z (inl m) q) e = absurd (a (sym e ∙ m))
-    store-kept h a b (stopped z (inr m) q) e = absurd (b (sym e ∙ m))
-    store-kept h a b (passed z q) e = absurd (omega arith)
+  abbrev storeIn : Evaluation Tree → List ℕ
+  storeIn v = storeBy v size (list s demand allowance store) store
 
-module _ (s : List ℕ) (demand allowance : ℕ) (store : List ℕ) where
+  store-late : (k : ℕ) → (k ≡ 13) ⊎ (k ≡ 14) → {v : Evaluation Tree} → Ended s allowance room v → numberOf v ≡ k → storeIn v ≡ cleared size store
+  store-late k m (tested h b z) e = absurd (omega (arith, above k m))
+  store-late k m (stopped {k = n} z b q) e = late n b (cleared size store) store
+  store-late k m (passed z q) e = absurd (omega (arith, above k m))
+
+  store-kept : (k : ℕ) → 0 < k → (k ≡ 13 → ⊥) → (k ≡ 14 → ⊥) → {v : Evaluation Tree} → Ended s allowance room v → numberOf v ≡ k → storeIn v ≡ store
+  store-kept k h a b (tested {k = n} i m z) e = early n m (cleared size store) store
+  store-kept k h a b (stopped z (inl m) q) e = absurd (a (sym e ∙ m))
+  store-kept k h a b (stopped z (inr m) q) e = absurd (b (sym e ∙ m))
+  store-kept k h a b (passed z q) e = absurd (omega arith)
+
   pub demand-1 : Demand-1 s demand allowance store
   demand-1 =
-      let room = length store in
       let end = ended s allowance room in
       let same = answered-by s allowance demand room refl in
-      let number : (answered s demand allowance store) .number ≡ numberOf s demand allowance room (ending s allowance room) = ap (λ (a : Answer). a .number) same in
-      let l = list s demand allowance store in
+      let stored = stored-by s allowance store refl in
+      let number : (answered s demand allowance store) .number ≡ numberOf (ending s allowance room) = ap (λ (a : Answer). a .number) same in
       record {
-        accepted = (λ e. was-passed s demand allowance room end (sym number ∙ e), λ pass. ap (λ (a : Answer). a .number) (answered-by s allowance demand room (passes s demand allowance room pass)));
-        refused-by = λ k h. (λ e. was-broken s demand allowance room k h end (sym number ∙ e), λ b. number ∙ breaks s demand allowance room k h b);
-        zeros = λ k h e. same ∙ zeros s demand allowance room k h (ending s allowance room) (sym number ∙ e);
-        store-accepted = λ e. stored-by s allowance store (passes s demand allowance room (was-passed s demand allowance room end (sym number ∙ e)));
-        store-late = λ k m e. stored-by s allowance store refl ∙ store-late s demand allowance room (needed (planOf s)) l store k m end (sym number ∙ e);
-        store-kept = λ k h a b e. stored-by s allowance store refl ∙ store-kept s demand allowance room (needed (planOf s)) l store k h a b end (sym number ∙ e);
+        accepted = (
+          λ e. was-passed end (sym number ∙ e),
+          λ pass. ap (λ (a : Answer). a .number) (answered-by s allowance demand room (passes pass)),
+        );
+        refused-by = λ k h. (λ e. was-broken k h end (sym number ∙ e), λ b. number ∙ breaks k h b);
+        zeros = λ k h e. same ∙ zeros k h (ending s allowance room) (sym number ∙ e);
+        store-accepted = λ e. stored-by s allowance store (passes (was-passed end (sym number ∙ e)));
+        store-late = λ k m e. stored ∙ store-late k m end (sym number ∙ e);
+        store-kept = λ k h a b e. stored ∙ store-kept k h a b end (sym number ∙ e);
       }
+
+  -- An accepted call.
+  module _ (e : (answered s demand allowance store) .number ≡ 0) where
+    pass : Passed s allowance room
+    pass = demand-1 .accepted .0 e
+
+    valid : Valid (planOf s)
+    valid = ready s store (none-broken (pass .tests)) .valid
+
+    leaves : Leaves (components s) (structure s) (pass .stack) (pass .pairs)
+    leaves = leaves-by valid allowance (pass .stack) (pass .pairs) (pass .runs)
+
+    answer-is : (d : ℕ) → answerAt s demand allowance store d ≡ answerOf (completed (pass .stack) (pass .pairs)) (structure s) (components s) d
+    answer-is d = answered-by s allowance d room (passes pass)
+
+    pub demand-2 : Demand-2 s demand allowance store
+    demand-2 =
+        let a = answer-is demand in
+        let every = all s demand allowance store in
+        let l = list s demand allowance store in
+        let total-is : (answered s demand allowance store) .total ≡ total (components s) = ap (λ (x : Answer). x .total) a in
+        let n : (answered s demand allowance store) .intervals ≡ length l = ap (λ (x : Answer). x .intervals) a in
+        let filled-is : after s demand allowance store ≡ filled size l store = demand-1 .store-accepted e in
+        let fits = drive-fits valid in
+        let six : length (components s) ≤ mostComponents = omega (arith, components-count (planOf s), valid .most) in
+        record {
+          total-is = total-is;
+          belief-is = ap (λ (x : Answer). x .belief) a;
+          plausibility-is = ap (λ (x : Answer). x .plausibility) a;
+          total-most = rw total-is (le-trans (total-le (every-map (λ c t. t .1) (valid .totals))) (pow-le-pow-right {n = mostTotal} (omega arith) six));
+          spans = spans-choices (structure s) (valid .inRange);
+          list-length = n;
+          list-is = filled-is;
+          list-read = rw (n, filled-is) (settled-list size store (fits .0) (fits .1));
+          list-ordered = order-collect every;
+          list-weight = λ low high. weightAt-collect low high every;
+          list-weights = weights-driveList (valid .balanced) (structure s) ∙ sym total-is;
+          list-belief = λ d. belief-collect d every ∙ sym (ap (λ (x : Answer). x .belief) (answer-is d));
+          list-plausibility = λ d. plausibility-collect d every ∙ sym (ap (λ (x : Answer). x .plausibility) (answer-is d));
+          tree = leaves .tree;
+          built = leaves .built;
+          pairs-are = ap (λ (x : Answer). x .pairs) a ∙ leaves .counted;
+          pairs-most = allowed (rw (pass .runs) at (within (components s) allowance (structure s) [] 0 (omega arith))) (ap (λ (x : Answer). x .pairs) a);
+        }
+      where
+        allowed : {stack : List Tree} {pairs n : ℕ} → Within allowance (completed stack pairs) → n ≡ pairs → n ≤ allowance
+        allowed (completes h) q = omega arith
+
+    pub demand-3 : Demand-3 s demand allowance store
+    demand-3 =
+        bounds-of (sym (demand-2 .total-is))
+        (λ d. sym (ap (λ (x : Answer). x .belief) (answer-is d)))
+        (λ d. sym (ap (λ (x : Answer). x .plausibility) (answer-is d)))
+        (bounds (structure s) (valid .inRange))
 
 pub writer : (p : Plan) (buffer : List ℕ) → Writer p buffer
 writer p buffer =
@@ -118,73 +194,7 @@ writer p buffer =
 pub round-trips : RoundTrips
 round-trips = record { written-reads = written-is-read; read-writes = read-is-written }
 
--- equal functions over an equal whole have the same bounds
-bounds-of : {es : List Entry} {cs : List Component} {v w : ℕ} {f g h k : ℕ → ℕ} → v ≡ w → ((d : ℕ) → f d ≡ h d) → ((d : ℕ) → g d ≡ k d)
-    → Bounds es cs v f g → Bounds es cs w h k
-bounds-of {es} {cs} {v} {w} {f} {g} {h} {k} e p q b = record {
-  least = λ D d. rw (← p d, ← e) (b .least D d);
-  greatest = λ D d. rw (← q d, ← e) (b .greatest D d);
-  least-met = (b .least-met .0, λ d. rw (← p d, ← e) (b .least-met .1 d));
-  greatest-met = (b .greatest-met .0, λ d. rw (← q d, ← e) (b .greatest-met .1 d));
-  least-tight = λ d a c t. rw (← p d, ← e) (b .least-tight d a c t);
-  greatest-tight = λ d a c t. rw (← q d, ← e) (b .greatest-tight d a c t);
-}
-
--- an accepted call
-module _ (s : List ℕ) (demand allowance : ℕ) (store : List ℕ) (e : (answered s demand allowance store) .number ≡ 0) where
-  pass : Passed s allowance (length store)
-  pass = demand-1 s demand allowance store .accepted .0 e
-
-  valid : Valid (planOf s)
-  valid = plan-valid s demand allowance store (none-broken (pass .tests))
-
-  leaves : Leaves (components s) (structure s) (pass .stack) (pass .pairs)
-  leaves = leaves-by valid allowance (pass .stack) (pass .pairs) (pass .runs)
-
-  answer-is : (d : ℕ) → answerAt s demand allowance store d ≡ answerOf (completed (pass .stack) (pass .pairs)) (structure s) (components s) d
-  answer-is d = answered-by s allowance d (length store) (passes s demand allowance (length store) pass)
-
-  pub demand-2 : Demand-2 s demand allowance store
-  demand-2 =
-      let a = answer-is demand in
-      let every = all s demand allowance store in
-      let l = list s demand allowance store in
-      let total-is : (answered s demand allowance store) .total ≡ total (components s) = ap (λ (x : Answer). x .total) a in
-      let n : (answered s demand allowance store) .intervals ≡ length l = ap (λ (x : Answer). x .intervals) a in
-      let is : after s demand allowance store ≡ filled (needed (planOf s)) l store = demand-1 s demand allowance store .store-accepted e in
-      let fits = drive-fits valid in
-      let six : length (components s) ≤ mostComponents = omega (arith, components-count (planOf s), valid .most) in
-      record {
-        total-is = total-is;
-        belief-is = ap (λ (x : Answer). x .belief) a;
-        plausibility-is = ap (λ (x : Answer). x .plausibility) a;
-        total-most = rw total-is (le-trans (total-le (every-map (λ c t. t .1) (valid .totals))) (pow-le-pow-right {n = mostTotal} (omega arith) six));
-        spans = spans-choices (structure s) (valid .inRange);
-        list-length = n;
-        list-is = is;
-        list-read = rw (n, is) (settled-list (needed (planOf s)) store (fits .0) (fits .1));
-        list-ordered = order-collect every;
-        list-weight = λ low high. weightAt-collect low high every;
-        list-weights = weights-driveList (valid .balanced) (structure s) ∙ sym total-is;
-        list-belief = λ d. belief-collect d every ∙ sym (ap (λ (x : Answer). x .belief) (answer-is d));
-        list-plausibility = λ d. plausibility-collect d every ∙ sym (ap (λ (x : Answer). x .plausibility) (answer-is d));
-        tree = leaves .tree;
-        built = leaves .built;
-        pairs-are = ap (λ (x : Answer). x .pairs) a ∙ leaves .counted;
-        pairs-most = allowed (rw (pass .runs) at (within (components s) allowance (structure s) [] 0 (omega arith))) (ap (λ (x : Answer). x .pairs) a);
-      }
-    where
-      allowed : {stack : List Tree} {pairs n : ℕ} → Within allowance (completed stack pairs) → n ≡ pairs → n ≤ allowance
-      allowed (completes h) q = omega arith
-
-  pub demand-3 : Demand-3 s demand allowance store
-  demand-3 =
-      bounds-of (sym (demand-2 .total-is))
-      (λ d. sym (ap (λ (x : Answer). x .belief) (answer-is d)))
-      (λ d. sym (ap (λ (x : Answer). x .plausibility) (answer-is d)))
-      (bounds (structure s) (valid .inRange))
-
--- ---- the numbers of an answer fit 64 bits
+-- ---- The numbers of an answer fit 64 bits.
 
 pub record Fits64 (a : Answer) : Type 0 where
   pub total : a .total < 2 ^ 64

@@ -33,7 +33,7 @@ use Rattle.plan.specs.Plan.{componentsOf, entriesOf}
 use Rattle.plan.specs.Valid.{Valid}
 use Rattle.writing.proofs.Theorems.{read-valid}
 use Rattle.run.specs.declared.Ran.{Ran}
-use Rattle.run.specs.Run.{needed, walked, ranOf, filled, cleared, storeOf}
+use Rattle.run.specs.Run.{needed, walked, ranOf, filled, cleared, storeOf, Runnable}
 use Rattle.plan.proofs.Entries.{components-count}
 use Rattle.run.proofs.Stacked.{fits-record}
 use Rattle.evaluate.specs.Answer.{planOf, components, structure, callTests, evaluated, ending, refusal, answer}
@@ -61,9 +61,9 @@ module _ (cs : List Component) (allowance : ℕ) where
       go false true r = refuses
       go false false r = r refl
 
--- ---- a plan that valid the rules
+-- ---- a plan that keeps the rules
 
--- how the walk on lists ends, and how the evaluation
+-- How the walk on lists ends, and how the evaluation does.
 pub data Ends (cs : List Component) (es : List Entry) : Evaluation (List Focal) → Evaluation Tree → Type 0 where
   stops : {k : ℕ} → (k ≡ 13) ⊎ (k ≡ 14) → Ends cs es (refused k) (refused k)
   leaves-one : {stack : List Tree} {pairs : ℕ} → Leaves cs es stack pairs → Ends cs es (completed (driveList es cs ∷ []) pairs) (completed stack pairs)
@@ -95,13 +95,13 @@ module _ {p : Plan} (valid : Valid p) where
           let one : map (listOf cs) stack ≡ driveList es cs ∷ [] = ap (map (listOf cs)) (left-over .left) ∙ ap (_∷ []) (left-over .list) in
           rw one (leaves-one left-over)
 
-  -- the numbers of the drive's list fit records
+  -- The numbers of the drive's list fit records.
   pub drive-fits : Every (Under speedLimit) (driveList es cs) × (weights (driveList es cs) < 2 ^ 64)
   drive-fits =
       fits-record (fits-drive (valid .inRange) (valid .balanced) (every-map (λ c q. q .1) (valid .totals)) (valid .positive) es entries-are each-once (valid .findTwo))
       (omega (arith, components-count p, valid .most))
 
--- a list that a store holds takes its records' bytes
+-- A list that a store holds takes its records' bytes.
 filled-room : (size : ℕ) (l : List Focal) (s : List ℕ) → recordBytes * length l ≤ length (filled size l s)
 filled-room size l s = simp length-append (omega (arith, length-encode l))
 
@@ -119,6 +119,9 @@ above k (inr e) = omega arith
 
 -- ---- a call
 
+pub ready : (s store : List ℕ) → firstBroken (callTests s (length store)) ≡ 0 → Runnable (planOf s) store
+ready s store z = let say = tests-say s (length store) z in record { valid = read-valid s (say .0); enough = say .1 }
+
 module _ (s : List ℕ) (demand allowance : ℕ) (store : List ℕ) where
   abbrev list : List Focal
   list = driveList (structure s) (components s)
@@ -126,7 +129,7 @@ module _ (s : List ℕ) (demand allowance : ℕ) (store : List ℕ) where
   abbrev all : List Focal
   all = outcomes (structure s) (components s)
 
-  -- refused by a test
+  -- A call that a test refuses.
   pub tested-call : (k : ℕ) → firstBroken (callTests s (length store)) ≡ k → (k ≡ 0 → ⊥) → (refusal k ≡ answer s demand allowance (length store)) × (store ≡ storeAfter s allowance store)
   tested-call zero e z = absurd (z refl)
   tested-call (suc k) e z =
@@ -134,7 +137,7 @@ module _ (s : List ℕ) (demand allowance : ℕ) (store : List ℕ) where
       let m : suc k ≤ 12 = omega (arith, tests-most s (length store)) in
       (sym (answered-by s allowance demand (length store) w), sym (stored-by s allowance store w ∙ early (suc k) m _ store))
 
-  -- past the tests: what the run answers, and the store that it leaves
+  -- A call past the tests, by what the run answers and the store that it leaves.
   pub record Finished (r : Ran) (x : List ℕ) : Type 0 where
     pub stored : x ≡ storeAfter s allowance store
     pub refuses : (r .number ≡ 0 → ⊥) → refusal (r .number) ≡ answer s demand allowance (length store)
@@ -143,12 +146,9 @@ module _ (s : List ℕ) (demand allowance : ℕ) (store : List ℕ) where
         → record { number = 0; total = u; belief = b .belief; plausibility = b .plausibility; pairs = r .pairs; intervals = r .intervals }
         ≡ answer s demand allowance (length store)
 
-  pub plan-valid : firstBroken (callTests s (length store)) ≡ 0 → Valid (planOf s)
-  plan-valid z = read-valid s (tests-say s (length store) z .0)
-
   pub finish : firstBroken (callTests s (length store)) ≡ 0 → (r : Ran) (x : List ℕ)
       → r ≡ ranOf (walked (planOf s) allowance) → x ≡ storeOf (needed (planOf s)) (walked (planOf s) allowance) store → Finished r x
-  finish z r x e f = go (run-ends (plan-valid z) allowance) refl e f
+  finish z r x e f = go (run-ends (ready s store z .valid) allowance) refl e f
     where
       go : {w : Evaluation (List Focal)} {v : Evaluation Tree} → Ends (components s) (structure s) w v → evaluated s allowance ≡ v
           → r ≡ ranOf w → x ≡ storeOf (needed (planOf s)) w store → Finished r x
@@ -164,7 +164,7 @@ module _ (s : List ℕ) (demand allowance : ℕ) (store : List ℕ) where
       go (leaves-one {stack = stack} {pairs = pairs} left-over) q e f =
           let m : r .intervals ≡ length list = ap (λ (y : Ran). y .intervals) e in
           let u : ending s allowance (length store) ≡ completed stack pairs = rw (z, q) in
-          let fits = drive-fits (plan-valid z) in
+          let fits = drive-fits (ready s store z .valid) in
           let back : records (r .intervals) x ≡ list = rw (m, f) (settled-list (needed (planOf s)) store (fits .0) (fits .1)) in
           record {
             stored = f ∙ sym (stored-by s allowance store u);

@@ -23,7 +23,7 @@ use Rattle.run.specs.Run.{needed}
 use Rattle.evaluate.specs.Answer.{planOf, components, structure, callTests, testedOf, evaluated, testedFirst, ending, answerOf, answer}
 use Rattle.evaluate.specs.Store.{storeBy, storeAfter}
 
--- the first broken test in a longer list
+-- The first broken test is the first of a longer list too.
 pub first-in-front : {ts : List Test} {k : ℕ} → First ts k → (us : List Test) → First (ts ++ us) k
 first-in-front (here q e) us = here q e
 first-in-front (later q r) us = later q (first-in-front r us)
@@ -32,7 +32,7 @@ pub first-behind : {ts us : List Test} {k : ℕ} → Every Unbroken ts → First
 first-behind Every.none f = f
 first-behind (Every.more q r) f = later q (first-behind r f)
 
--- of a call
+-- The tests of a call.
 module _ (s : List ℕ) (room : ℕ) where
   abbrev twelve : List Test
   twelve = test 12 (ltb room (needed (planOf s))) ∷ []
@@ -49,7 +49,7 @@ module _ (s : List ℕ) (room : ℕ) where
   pub tests-most : firstBroken (callTests s room) ≤ 12
   tests-most = most-number 12 (callTests s room) refl
 
-  -- what is known of a plan whose tests are all kept
+  -- What is known of a sheet and a store where no test is broken.
   pub tests-say : firstBroken (callTests s room) ≡ 0 → ((readOf s) .number ≡ 0) × (needed (planOf s) ≤ room)
   tests-say e = elim (ℕ-discrete ((readOf s) .number) 0) [
     | yes z ↦ (z, room-there (ltb room (needed (planOf s))) refl (sym (number-read z) ∙ e))
@@ -60,7 +60,7 @@ module _ (s : List ℕ) (room : ℕ) where
       room-there true q z = absurd (omega arith)
       room-there false q z = ltb-false room (needed (planOf s)) q
 
-  -- the three ways of the tests
+  -- The tests go three ways.
   abbrev numbered : ℕ → Reading
   numbered k = record { number = k; plan = planOf s }
 
@@ -95,7 +95,7 @@ ended s allowance room = go (firstBroken (callTests s room)) refl (evaluated s a
     go zero z (refused k) q = stopped z (evaluate-refused (components s) allowance (structure s) k q) q
     go (suc k) z v q = tested {k = suc k} (omega arith) (omega (arith, tests-most s room)) z
 
--- the answer and the store by that
+-- The answer and the store follow.
 module _ (s : List ℕ) (allowance : ℕ) {v : Evaluation Tree} where
   pub answered-by : (demand room : ℕ) → ending s allowance room ≡ v → answer s demand allowance room ≡ answerOf v (structure s) (components s) demand
   unfolding answer

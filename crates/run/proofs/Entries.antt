@@ -13,7 +13,7 @@ use Rattle.plan.specs.declared.Plan.{Plan}
 use Rattle.plan.specs.Plan.{entryOf, entriesOf}
 use Rattle.plan.proofs.Entries.{entries-count, entry-is}
 
--- how many joins entries have
+-- How many joins entries have.
 abbrev pub joinCount : List Entry → ℕ
 joinCount [] = 0
 joinCount (component i ∷ es) = joinCount es
@@ -24,7 +24,7 @@ counted [] = refl
 counted (component i ∷ es) = omega (arith, counted es)
 counted (join op ∷ es) = omega (arith, counted es)
 
--- the entries from place i on
+-- The entries from place i on.
 pub entries-from : (p : Plan) (i : ℕ) → i < entryCount (p .count) → drop i (entriesOf p) ≡ entryOf (getD (p .entries) i 0) ∷ drop (suc i) (entriesOf p)
 entries-from p i h =
     drop-cons (entriesOf p) i (component 0) (omega (arith, entries-count p)) ∙ ap (λ (e : Entry). e ∷ drop (suc i) (entriesOf p)) (entry-is p i h)

@@ -17,11 +17,11 @@ use Rattle.run.specs.declared.Stack.{Stack}
 use Rattle.run.specs.Stack.{listsBelow, withList}
 use Rattle.run.specs.Run.{filled, cleared}
 
--- the lists of a stack lie before the free rest of the store, and none is too long
+-- The lists of a stack lie before the free rest of the store, and none is too long.
 abbrev pub Apart : Stack → Type 0
 Apart st = (k : ℕ) → k < st .depth → (getD (st .starts) k 0 + recordBytes * getD (st .counts) k 0 ≤ st .free) × (getD (st .counts) k 0 ≤ mostIntervals)
 
--- where the lists of a stack stand in a store whose bytes behind the first `size` were those of store₀
+-- How the lists of a stack stand in a store whose bytes behind the first `size` are those of store₀.
 pub record Stored (size : ℕ) (store₀ store : List ℕ) (st : Stack) : Type 0 where
   pub starts : length (st .starts) ≡ mostComponents
   pub counts : length (st .counts) ≡ mostComponents
@@ -29,7 +29,7 @@ pub record Stored (size : ℕ) (store₀ store : List ℕ) (st : Stack) : Type 0
   pub same-length : length store ≡ length store₀
   pub later : drop size store ≡ drop size store₀
 
--- a list at place d, from the free rest's first byte on
+-- A list goes to place d of the stack, and into the store from the free rest's first byte on.
 module _ {size : ℕ} {store₀ store : List ℕ} {st : Stack} (stored : Stored size store₀ store st) (enough : size ≤ length store₀)
     (d pairs : ℕ) (l : List Focal) (low : d ≤ st .depth) (place : d < mostComponents) (room : st .free + listBytes ≤ size) (short : length l ≤ mostIntervals) where
   abbrev next : Stack
@@ -75,7 +75,7 @@ module _ {size : ℕ} {store₀ store : List ℕ} {st : Stack} (stored : Stored 
     later = drop-from store (st .free) l size (omega arith) inside ∙ stored .later;
   }
 
--- what the end of a run makes of the first n bytes
+-- What the end of a run makes of the first n bytes.
 module _ {size n : ℕ} (q : size ≡ n) (x s after : List ℕ) (d : drop n x ≡ drop n s) where
   pub clears : after ≡ zeroed x 0 size → after ≡ cleared n s
   clears e =

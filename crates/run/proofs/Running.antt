@@ -31,36 +31,36 @@ use Rattle.joins.proofs.Filling.{grown}
 use Rattle.joins.proofs.Answer.{fill-made}
 use Rattle.plan.specs.declared.Plan.{Plan}
 use Rattle.plan.specs.Plan.{componentAt, componentsOf, entriesOf}
-use Rattle.plan.specs.Valid.{Known, Valid}
+use Rattle.plan.specs.Valid.{Known}
 use Rattle.plan.proofs.Entries.{known-component, components-count, component-is}
 use Rattle.run.specs.declared.Stack.{Stack}
 use Rattle.run.specs.declared.Step.{Step}
 use Rattle.run.specs.Stack.{emptyStack, listAt, listsBelow, withList, Pushable, pushed, pushedStore, topStart, topCount, topList, topJoined, spent, stop, Applicable, joinStep, joinStore}
-use Rattle.run.specs.Run.{needed, leafList, walked}
+use Rattle.run.specs.Run.{needed, leafList, walked, Runnable}
 use Rattle.run.proofs.Entries.{joinCount, counted}
 use Rattle.run.proofs.Stacked.{Stacked, none, more, Topmost, topmost, fits-record, length-leaf}
 use Rattle.run.proofs.Placing.{Stored, on-top, stored-next}
 
--- the bytes that the lists of so many components and joins may take, each behind the one before it
+-- The bytes that the lists of so many components and joins may take, each behind the one before it.
 abbrev space : ℕ → ℕ → ℕ
 space leaves joins = recordBytes * (mostHeld * leaves + mostIntervals * joins)
 
--- what is left to walk on lists
+-- What is left to walk on lists.
 abbrev walkOn : Plan → ℕ → List Entry → List (List Focal) → ℕ → Evaluation (List Focal)
 walkOn p allowance = walkLists _*_ allowance (leafList p)
 
 pub record Running (p : Plan) (allowance : ℕ) (store₀ : List ℕ) (rest : List Entry) (store : List ℕ) (st : Stack) : Type 0 where
   pub stored : Stored (needed p) store₀ store st
-  -- the lists of the stack, over the components named so far
+  -- The stack holds lists over the components named so far.
   pub held : ℕ
   pub lists : Stacked held (listsBelow store st (st .depth))
   pub height : (st .depth ≤ held) × (held ≤ mostComponents * st .depth)
-  -- what is left: components below n, joins that find two lists, as many entries as leave one list
+  -- The entries left name components below n, have joins that find two lists, and leave one list.
   pub unnamed : held + length (named rest) ≡ p .count
   pub known : Every (Known (p .count)) rest
   pub balance : st .depth + length (named rest) ≡ joinCount rest + 1
   pub two : joinsFindTwo rest (st .depth) ≡ true
-  -- the room: joined lists stay where they are
+  -- There is room for the lists to come; joined ones stay where they are.
   pub room : st .free + space (length (named rest)) (joinCount rest) ≤ space (p .count) (p .count - 1)
   pub allowed : st .pairs ≤ allowance
   pub walks : walkOn p allowance rest (listsBelow store st (st .depth)) (st .pairs) ≡ walked p allowance
@@ -68,39 +68,38 @@ pub record Running (p : Plan) (allowance : ℕ) (store₀ : List ℕ) (rest : Li
 every-first : {P : Entry → Type 0} {e : Entry} {es : List Entry} → Every P (e ∷ es) → P e × Every P es
 every-first (Every.more h hs) = (h, hs)
 
-module _ {p : Plan} (valid : Valid p) {allowance : ℕ} where
-  pub starting : (store : List ℕ) → Running p allowance store (entriesOf p) store emptyStack
+module _ {p : Plan} {store₀ : List ℕ} (ready : Runnable p store₀) {allowance : ℕ} where
+  pub starting : Running p allowance store₀ (entriesOf p) store₀ emptyStack
   unfolding walked
-  starting store =
-      let n : length (named (entriesOf p)) ≡ p .count = named-length (p .count) (entriesOf p) (valid .namedOnce) in
-      let j : joinCount (entriesOf p) + 1 ≡ p .count = omega (arith, counted (entriesOf p), valid .entries) in
+  starting =
+      let n : length (named (entriesOf p)) ≡ p .count = named-length (p .count) (entriesOf p) (ready .valid .namedOnce) in
+      let j : joinCount (entriesOf p) + 1 ≡ p .count = omega (arith, counted (entriesOf p), ready .valid .entries) in
       record {
         stored = record { starts = refl; counts = refl; apart = λ k h. absurd (omega arith); same-length = refl; later = refl };
         held = 0;
         lists = none;
         height = omega arith;
         unnamed = omega arith;
-        known = valid .known;
+        known = ready .valid .known;
         balance = omega arith;
-        two = valid .findTwo;
-        room = omega (arith, valid .least, valid .most);
+        two = ready .valid .findTwo;
+        room = omega (arith, ready .valid .least, ready .valid .most);
         allowed = omega arith;
         walks = refl;
       }
 
-  pub in-region : {store₀ store : List ℕ} {rest : List Entry} {st : Stack} → Running p allowance store₀ rest store st → st .free ≤ storeBytes
-  in-region running = omega (arith, running .room, valid .most)
+  pub in-region : {store : List ℕ} {rest : List Entry} {st : Stack} → Running p allowance store₀ rest store st → st .free ≤ storeBytes
+  in-region running = omega (arith, running .room, ready .valid .most)
 
-  -- at the end the one list of the stack is what the walk leaves
-  pub finished : {store₀ store : List ℕ} {st : Stack} → Running p allowance store₀ [] store st
+  -- At the end the one list of the stack is what the walk leaves.
+  pub finished : {store : List ℕ} {st : Stack} → Running p allowance store₀ [] store st
       → (st .depth ≡ 1) × (walked p allowance ≡ completed (listAt store st 0 ∷ []) (st .pairs))
   finished {store = store} {st = st} running =
       let one : st .depth ≡ 1 = omega (arith, running .balance) in
       (one, sym (ap (λ d. completed (listsBelow store st d) (st .pairs)) (sym one) ∙ running .walks))
 
   -- ---- a component's entry
-  module _ {store₀ store : List ℕ} (enough : needed p ≤ length store₀) {j : ℕ} {rest : List Entry} {st : Stack}
-      (running : Running p allowance store₀ (component j ∷ rest) store st) where
+  module _ {store : List ℕ} {j : ℕ} {rest : List Entry} {st : Stack} (running : Running p allowance store₀ (component j ∷ rest) store st) where
     abbrev c : Component
     c = componentAt p j
 
@@ -111,27 +110,27 @@ module _ {p : Plan} (valid : Valid p) {allowance : ℕ} where
     of-component {P} h = subst P (component-is p j component-below) (index-of-every noComponent h j (omega (arith, component-below, components-count p)))
 
     fits : Fits 1 (collect (masses c))
-    fits = fits-leaf c (of-component (valid .inRange)) (omega (arith, of-component (valid .totals), of-component (valid .balanced)))
+    fits = fits-leaf c (of-component (ready .valid .inRange)) (omega (arith, of-component (ready .valid .totals), of-component (ready .valid .balanced)))
 
     push-room : (st .depth < mostComponents) × (st .free + listBytes ≤ storeBytes)
-    push-room = omega (arith, running .height, running .unnamed, running .balance, running .room, valid .most)
+    push-room = omega (arith, running .height, running .unnamed, running .balance, running .room, ready .valid .most)
 
     pub pushable : Pushable c store st
     pushable = record {
       place = push-room .0;
       start = in-region running;
-      room = omega (arith, push-room, running .stored .same-length);
-      count = of-component (valid .counts) .1;
+      room = omega (arith, push-room, ready .enough, running .stored .same-length);
+      count = of-component (ready .valid .counts) .1;
     }
 
     pub push-next : Running p allowance store₀ rest (pushedStore c store st) (pushed c st)
     push-next =
         let l : List Focal = collect (masses c) in
-        let short : length l ≤ mostHeld = omega (arith, length-leaf c, of-component (valid .counts)) in
+        let short : length l ≤ mostHeld = omega (arith, length-leaf c, of-component (ready .valid .counts)) in
         let top : listsBelow (pushedStore c store st) (pushed c st) (st .depth + 1) ≡ l ∷ listsBelow store st (st .depth) =
-        on-top (running .stored) enough (st .depth) (st .pairs) l (omega arith) (push-room .0) (push-room .1) (omega arith) (fits-record fits (omega arith)) in
+        on-top (running .stored) (ready .enough) (st .depth) (st .pairs) l (omega arith) (push-room .0) (push-room .1) (omega arith) (fits-record fits (omega arith)) in
         record {
-          stored = stored-next (running .stored) enough (st .depth) (st .pairs) l (omega arith) (push-room .0) (push-room .1) (omega arith);
+          stored = stored-next (running .stored) (ready .enough) (st .depth) (st .pairs) l (omega arith) (push-room .0) (push-room .1) (omega arith);
           held = suc (running .held);
           lists = rw top (more {k = suc (running .held)} fits (running .lists) (omega arith));
           height = omega (arith, running .height);
@@ -145,8 +144,7 @@ module _ {p : Plan} (valid : Valid p) {allowance : ℕ} where
         }
 
   -- ---- a join's entry
-  module _ {store₀ store : List ℕ} (enough : needed p ≤ length store₀) {op : Join} {rest : List Entry} {st : Stack}
-      (running : Running p allowance store₀ (join op ∷ rest) store st) where
+  module _ {store : List ℕ} {op : Join} {rest : List Entry} {st : Stack} (running : Running p allowance store₀ (join op ∷ rest) store st) where
     finds-two : (d : ℕ) → joinsFindTwo (join op ∷ rest) d ≡ true → (2 ≤ d) × (joinsFindTwo rest (d - 2 + 1) ≡ true)
     finds-two zero e = absurd (false≢true e)
     finds-two (suc zero) e = absurd (false≢true e)
@@ -158,7 +156,7 @@ module _ {p : Plan} (valid : Valid p) {allowance : ℕ} where
     two-there = finds-two (st .depth) (running .two) .0
 
     join-room : (st .depth ≤ mostComponents) × (st .free + listBytes ≤ storeBytes)
-    join-room = omega (arith, running .height, running .unnamed, running .balance, running .room, valid .most)
+    join-room = omega (arith, running .height, running .unnamed, running .balance, running .room, ready .valid .most)
 
     abbrev below : List (List Focal)
     below = listsBelow store st (st .depth - 2)
@@ -173,12 +171,12 @@ module _ {p : Plan} (valid : Valid p) {allowance : ℕ} where
     topTwo = topmost (rw split at (running .lists))
 
     together : topTwo .m + topTwo .n ≤ mostComponents
-    together = omega (arith, topTwo .together, running .unnamed, valid .most)
+    together = omega (arith, topTwo .together, running .unnamed, ready .valid .most)
 
     operand : (k m : ℕ) → 0 < k → k ≤ st .depth → m ≤ mostComponents → Fits m (topList store st k) → Operand store (topStart st k) (topCount st k)
     operand k m a b h f =
         let at-k = running .stored .apart (st .depth - k) (omega arith) in
-        record { count = at-k .1; inside = omega (arith, at-k, join-room, running .stored .same-length); under = fits-speeds f h }
+        record { count = at-k .1; inside = omega (arith, at-k, join-room, ready .enough, running .stored .same-length); under = fits-speeds f h }
 
     pub applicable : Applicable allowance store st
     applicable = record {
@@ -189,12 +187,12 @@ module _ {p : Plan} (valid : Valid p) {allowance : ℕ} where
       joinable = record {
         first = operand 2 (topTwo .m) (omega arith) two-there (omega (arith, together)) (topTwo .fits-left);
         second = operand 1 (topTwo .n) (omega arith) (omega (arith, two-there)) (omega (arith, together)) (topTwo .fits-right);
-        room = omega (arith, join-room, running .stored .same-length);
+        room = omega (arith, join-room, ready .enough, running .stored .same-length);
         fits = fits-product (topTwo .fits-left) (topTwo .fits-right) together;
       };
     }
 
-    -- the join's list, the pairs, and what is left to walk
+    -- The join's list, the pairs, and what is left to walk.
     abbrev list : List Focal
     list = topJoined op store st
 
@@ -217,12 +215,12 @@ module _ {p : Plan} (valid : Valid p) {allowance : ℕ} where
         let place : d < mostComponents = omega (arith, join-room, two-there) in
         let fits : Fits (topTwo .m + topTwo .n) list = fits-join op (topTwo .fits-left) (topTwo .fits-right) in
         let top : listsBelow (holdingFrom store (st .free) list) joinedStack (d + 1) ≡ list ∷ below =
-        on-top (running .stored) enough d (spent st) list (omega arith) place (join-room .1) b (fits-record fits together) in
+        on-top (running .stored) (ready .enough) d (spent st) list (omega arith) place (join-room .1) b (fits-record fits together) in
         record {
-          stored = stored-next (running .stored) enough d (spent st) list (omega arith) place (join-room .1) b;
+          stored = stored-next (running .stored) (ready .enough) d (spent st) list (omega arith) place (join-room .1) b;
           held = running .held;
           lists = rw top (more fits (topTwo .stacked) (topTwo .together));
-          height = omega (arith, running .height, running .unnamed, valid .most, two-there);
+          height = omega (arith, running .height, running .unnamed, ready .valid .most, two-there);
           unnamed = running .unnamed;
           known = every-first (running .known) .1;
           balance = omega (arith, running .balance, two-there);
@@ -232,7 +230,7 @@ module _ {p : Plan} (valid : Valid p) {allowance : ℕ} where
           walks = rw top (sym (at-join ∙ rw (le-ltb allowance (spent st) a, le-ltb mostIntervals (length list) b) refl));
         }
 
-    -- as the join ends: the run goes on, or the walk is refused with its number
+    -- As the join ends, the run goes on, or the walk is refused with its number.
     abbrev Out : Step → List ℕ → Type 0
     Out s after = (s .number ≡ 0 → Running p allowance store₀ rest after (s .stack)) × ((s .number ≡ 0 → ⊥) → walked p allowance ≡ refused (s .number))
 
@@ -253,7 +251,7 @@ module _ {p : Plan} (valid : Valid p) {allowance : ℕ} where
             let u : after ≡ holdingFrom store (st .free) list = f ∙ rw (x, fill-made (pairs op (topList store st 2) (topList store st 1)) b) in
             (λ z. rw (t, u) (join-next (ltb-false allowance (spent st) x) b), λ z. absurd (z (ap (λ (r : Step). r .number) t)))
 
-    -- the bytes behind those that the plan needs stay as they were, at a refusal too
+    -- The bytes behind those that the plan needs stay as they were, at a refusal too.
     pub join-later : drop (needed p) (joinStore op allowance store st) ≡ drop (needed p) store₀
     join-later = go (ltb allowance (spent st))
       where
@@ -264,4 +262,4 @@ module _ {p : Plan} (valid : Valid p) {allowance : ℕ} where
         go true = running .stored .later
         go false =
             drop-from store (st .free) (made .list) (needed p) (omega (arith, join-room, grown [] (pairs op (topList store st 2) (topList store st 1)) .room (omega arith)))
-            (omega (arith, join-room, running .stored .same-length)) ∙ running .stored .later
+            (omega (arith, join-room, ready .enough, running .stored .same-length)) ∙ running .stored .later

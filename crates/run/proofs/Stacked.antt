@@ -15,12 +15,12 @@ use Rattle.theory.proofs.Totals.{fits-speeds, fits-weights}
 use Rattle.plan.proofs.Entries.{listed-count}
 use Rattle.records.specs.Records.{Under, speedLimit}
 
--- the lists of a stack, over k components together
+-- The lists of a stack, over k components together.
 pub data Stacked : ℕ → List (List Focal) → Type 0 where
   none : Stacked 0 []
   more : {k m n : ℕ} {l : List Focal} {ls : List (List Focal)} → Fits m l → Stacked n ls → k ≡ m + n → Stacked k (l ∷ ls)
 
--- the two topmost, over m and n components, and the others
+-- The two topmost are over m and n components; then there are the others.
 pub record Topmost (k : ℕ) (x y : List Focal) (ls : List (List Focal)) : Type 0 where
   pub m : ℕ
   pub n : ℕ
@@ -34,10 +34,10 @@ pub topmost : {k : ℕ} {x y : List Focal} {ls : List (List Focal)} → Stacked 
 topmost (more {m = n} g (more {m = m} {n = others} f s a) b) =
     record { m = m; n = n; others = others; fits-left = f; fits-right = g; stacked = s; together = omega arith }
 
--- a list over up to six components fits records
+-- A list over up to six components fits records.
 pub fits-record : {m : ℕ} {l : List Focal} → Fits m l → m ≤ mostComponents → Every (Under speedLimit) l × (weights l < 2 ^ 64)
 fits-record f h = (every-map (λ x r. (omega (arith, r .0), omega (arith, r .1))) (fits-speeds f h), fits-weights f h)
 
--- a component's list is no longer than what the sheet lists
+-- A component's list is no longer than what the sheet lists.
 pub length-leaf : (c : Component) → length (collect (masses c)) ≤ c .count
 length-leaf c = omega (arith, length-collect (masses c), listed-count c)

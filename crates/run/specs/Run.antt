@@ -1,5 +1,5 @@
 -- "Pairs, allowance and store": what the run of a plan answers, and each byte of the store afterwards. Assumes nothing.
-use Prim.Native.Nat.{ℕ, _*_}
+use Prim.Native.Nat.{ℕ, _*_, _≤_}
 use mathlib.Core.List.{List, [], _∷_, _++_}
 use lib.ListN.{length, getD, drop, replicate}
 use Rattle.theory.specs.Focal.{Focal, masses}
@@ -9,6 +9,7 @@ use Rattle.theory.specs.Limits.{storeBytes}
 use Rattle.records.specs.Store.{settled}
 use Rattle.plan.specs.declared.Plan.{Plan}
 use Rattle.plan.specs.Plan.{componentsOf, entriesOf}
+use Rattle.plan.specs.Valid.{Valid}
 use Rattle.run.specs.declared.Ran.{Ran}
 
 -- The bytes of the store (document 01: the list buffer) that a plan of n components needs. They are all that its run writes.
@@ -48,3 +49,8 @@ cleared size store = replicate size 0 ++ drop size store
 abbrev pub storeOf : ℕ → Evaluation (List Focal) → List ℕ → List ℕ
 storeOf size (completed stack pairs) store = filled size (topmost stack) store
 storeOf size (refused number) store = cleared size store
+
+-- A plan that keeps the rules, and a store with the bytes that it needs.
+pub record Runnable (p : Plan) (store : List ℕ) : Type 0 where
+  pub valid : Valid p
+  pub enough : needed p ≤ length store

@@ -1,11 +1,9 @@
 // The run of a plan in a store that the caller lends: its entries one after the other, on a stack of lists.
 ghost use mathlib.Core.Path.{_≡_};
 ghost use Prim.Native.Nat.{_≤_, _<_};
-ghost use lib.ListN.{length};
 ghost use Rattle.theory.specs.Limits.{mostComponents, mostIntervals, storeBytes};
-ghost use Rattle.plan.specs.Valid.{Valid};
 ghost use Rattle.run.specs.Stack.{emptyStack, withList, Pushable, pushed, pushedStore, Applicable, joinStep, joinStore};
-ghost use Rattle.run.specs.Run.{storeFor, needed, walked, ranOf, storeOf};
+ghost use Rattle.run.specs.Run.{storeFor, needed, walked, ranOf, storeOf, Runnable};
 use joins::Joined;
 use plan::Plan;
 use theory::Component;
@@ -115,8 +113,7 @@ fn apply(op: Join, stack: Stack, store: &mut [u8], allowance: u32) -> Step
 // The entries of a plan, one after the other. After a refusal at a join the bytes that the plan needs are zero; at the end the one list
 // that is left stands at the front, and the rest of them is zero. Later bytes stay as they were.
 pub fn run_plan(p: Plan, allowance: u32, store: &mut [u8]) -> Ran
-    requires { ⌜ Valid p ⌝ }
-    requires { ⌜ needed p ≤ length (now store) ⌝ }
+    requires { ⌜ Runnable p (now store) ⌝ }
     ensures { λ r. ⌜ r ≡ ranOf (walked p allowance) ⌝ }
     ensures { λ _. ⌜ now (store .exit) ≡ storeOf (needed p) (walked p allowance) (now (store .entry)) ⌝ }
 {

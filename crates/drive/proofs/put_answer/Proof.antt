@@ -12,7 +12,7 @@ use borrow.Author.Needs.{needs}
 use Rattle.drive.proofs.put_answer.Statement.{statement}
 use Rattle.drive.proofs.put_answer.Tie as tie
 
--- one number more behind xs, which take the first k bytes
+-- One number more goes behind xs, which take the first k bytes.
 behind : (s₀ s e xs : List ℕ) (k v : ℕ) → length xs ≡ k → s ≡ xs ++ drop k s₀ → e ≡ take k s ++ (bigEndian 8 v ++ drop (k + 8) s)
     → (e ≡ (xs ++ bigEndian 8 v) ++ drop (k + 8) s₀) × (length (xs ++ bigEndian 8 v) ≡ k + 8)
 behind s₀ s e xs k v l p q =

@@ -1,5 +1,5 @@
 -- `evaluate::bounds` meets its contract: refused by a test, refused by the run, or accepted. Assumes nothing.
-use Prim.Native.Nat.{ℕ, _≤_}
+use Prim.Native.Nat.{ℕ}
 use mathlib.Core.Path.{_≡_, sym, ap, subst, _∙_}
 use mathlib.Core.List.{List}
 use lib.ListN.{length}
@@ -8,16 +8,15 @@ use Rattle.plan.specs.declared.Plan.{Plan}
 use Rattle.reading.specs.declared.Reading.{Reading}
 use Rattle.plan.specs.Tests.{firstBroken}
 use Rattle.plan.specs.Plan.{componentsOf}
-use Rattle.plan.specs.Valid.{Valid}
-use Rattle.run.specs.Run.{needed, walked, ranOf, storeOf}
+use Rattle.run.specs.Run.{needed, walked, ranOf, storeOf, Runnable}
 use Rattle.evaluate.specs.Answer.{planOf, callTests}
-use Rattle.evaluate.proofs.Numbers.{tests-say, tested-is}
-use Rattle.evaluate.proofs.Finish.{tested-call, Finished, plan-valid, finish}
+use Rattle.evaluate.proofs.Numbers.{tested-is}
+use Rattle.evaluate.proofs.Finish.{tested-call, ready, Finished, finish}
 use borrow.Author.Needs.{needs}
 use Rattle.evaluate.proofs.bounds.Statement.{statement}
 use Rattle.evaluate.proofs.bounds.Tie as tie
 
--- past the tests
+-- Past the tests.
 module _ (c : tie.After-tested) where
   abbrev start : tie.Start
   start = c .before .before .before
@@ -37,11 +36,10 @@ module _ (c : tie.After-tested) where
   plan-is : p ≡ planOf sheet
   plan-is = ap (λ (r : Reading). r .plan) (c .tested .ensures ∙ tested-is sheet (length store))
 
-  module _ (z : c .tested .result .number ≡ 0) where
-    valid : Valid p
-    valid = rw plan-is (plan-valid sheet (start .args .demand) (start .args .allowance) store (sym number-is ∙ z))
+  ready-plan : c .tested .result .number ≡ 0 → Runnable p store
+  ready-plan z = subst (λ (q : Plan). Runnable q store) (sym plan-is) (ready sheet store (sym number-is ∙ z))
 
--- past the run
+-- Past the run.
 finished : (c : tie.After-run-plan) → let a = c .before .before .before .before .before in
     Finished (sheet a) (start a .args .demand) (start a .args .allowance) (store a) (c .run-plan .result) (c .run-plan .last .1 .1 .0)
 finished c =
@@ -60,10 +58,7 @@ returns c =
     (c .refuse .ensures ∙ call .0, call .1)
 
 run-plan-requires : tie.Need-run-plan-requires
-run-plan-requires c κs =
-    let a = c .before .before .before .before in
-    let z = c .before .before .if1 .left in
-    (valid a z, subst (λ (q : Plan). needed q ≤ length (store a)) (sym (plan-is a)) (tests-say (sheet a) (length (store a)) (sym (number-is a) ∙ z) .1))
+run-plan-requires c κs = ready-plan (c .before .before .before .before) (c .before .before .if1 .left)
 
 returns-2 : tie.Need-returns-2
 returns-2 c =
@@ -76,7 +71,7 @@ shares-at-requires c κs = finished (c .before .before .before .before .before) 
 total-of-requires : tie.Need-total-of-requires
 total-of-requires c κs =
     let e = c .before .before .before .before .before .before .before .before .before in
-    valid (e .before .before) (e .if1 .left)
+    ready-plan (e .before .before) (e .if1 .left) .valid
 
 returns-3 : tie.Need-returns-3
 returns-3 c =

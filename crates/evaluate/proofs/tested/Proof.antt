@@ -11,7 +11,7 @@ use borrow.Author.Needs.{needs}
 use Rattle.evaluate.proofs.tested.Statement.{statement}
 use Rattle.evaluate.proofs.tested.Tie as tie
 
--- what was read
+-- What was read.
 module _ (c : tie.After-read-sheet) where
   abbrev sheet : List ℕ
   sheet = c .before .before .args .sheet .now

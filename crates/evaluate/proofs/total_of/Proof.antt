@@ -17,7 +17,7 @@ use borrow.Author.Needs.{needs}
 use Rattle.evaluate.proofs.total_of.Statement.{statement}
 use Rattle.evaluate.proofs.total_of.Tie as tie
 
--- the product of the totals of some components of a plan
+-- The product of the totals of some components of a plan.
 abbrev totalAt : Plan → List ℕ → ℕ
 totalAt p is = total (map (componentAt p) is)
 

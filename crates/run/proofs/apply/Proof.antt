@@ -43,7 +43,7 @@ returns c =
 join-in-store-requires : tie.Need-join-in-store-requires
 join-in-store-requires c κs = start (c .before .before) .pre .joinable
 
--- a join that is made
+-- At a join that is made.
 abbrev begun : tie.After-known-told → tie.Start
 begun c = start (c .before .before .before .before .before .before .before .before)
 
