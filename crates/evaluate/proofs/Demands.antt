@@ -26,6 +26,7 @@ use Rattle.theory.proofs.Collect.{order-collect, positive-collect, weightAt-col
 use Rattle.theory.proofs.Totals.{weights-driveList, total-le}
 use Rattle.theory.proofs.Range.{spans-choices}
 use Rattle.theory.proofs.Bounds.{bounds}
+use Rattle.records.specs.Store.{settled}
 use Rattle.records.proofs.Store.{settled-list}
 use Rattle.plan.specs.declared.Plan.{Plan}
 use Rattle.plan.specs.Tests.{firstBroken}
@@ -35,12 +36,12 @@ use Rattle.writing.specs.Writing.{planTests}
 use Rattle.writing.proofs.Cleaned.{ignores-unused}
 use Rattle.writing.proofs.Accepted.{written-number}
 use Rattle.writing.proofs.Theorems.{written-is-read, read-is-written, nothing-written, rest-kept}
-use Rattle.run.specs.Run.{needed, filled, cleared}
+use Rattle.run.specs.Run.{needed, cleared}
 use Rattle.plan.proofs.Entries.{components-count}
 use Rattle.evaluate.specs.declared.Answer.{Answer}
 use Rattle.evaluate.specs.Answer.{planOf, components, structure, callTests, ending, refusal, answerOf}
 use Rattle.evaluate.specs.Store.{storeBy}
-use Rattle.evaluate.specs.Demands.{Passed, Broken, by-test, by-join, answerAt, answered, after, all, list, Demand-1, Writer, Demand-2, RoundTrips, Demand-3}
+use Rattle.evaluate.specs.Demands.{Passed, Broken, by-test, by-join, answerAt, answered, afterwards, all, list, Demand-1, Writer, Demand-2, RoundTrips, Demand-3}
 use Rattle.evaluate.proofs.Numbers.{tests-kept, Ended, tested, stopped, passed, ended, answered-by, stored-by}
 use Rattle.evaluate.proofs.Finish.{Within, completes, within, leaves-by, drive-fits, early, late, above, ready}
 
@@ -146,7 +147,7 @@ module _ (s : List ℕ) (demand allowance : ℕ) (store : List ℕ) where
         let l = list s demand allowance store in
         let total-is : (answered s demand allowance store) .total ≡ total (components s) = ap (λ (x : Answer). x .total) a in
         let n : (answered s demand allowance store) .intervals ≡ length l = ap (λ (x : Answer). x .intervals) a in
-        let filled-is : after s demand allowance store ≡ filled size l store = demand-1 .store-accepted e in
+        let settled-is : afterwards s demand allowance store ≡ settled size l store = demand-1 .store-accepted e in
         let fits = drive-fits valid in
         let six : length (components s) ≤ mostComponents = omega (arith, components-count (planOf s), valid .most) in
         record {
@@ -156,8 +157,8 @@ module _ (s : List ℕ) (demand allowance : ℕ) (store : List ℕ) where
           total-most = rw total-is (le-trans (total-le (every-map (λ c t. t .1) (valid .totals))) (pow-le-pow-right {n = mostTotal} (omega arith) six));
           spans = spans-choices (structure s) (valid .inRange);
           list-length = n;
-          list-is = filled-is;
-          list-read = rw (n, filled-is) (settled-list size store (fits .0) (fits .1));
+          list-is = settled-is;
+          list-read = rw (n, settled-is) (settled-list size store (fits .0) (fits .1));
           list-ordered = order-collect every;
           list-weight = λ low high. weightAt-collect low high every;
           list-weights = weights-driveList (valid .balanced) (structure s) ∙ sym total-is;

@@ -26,6 +26,7 @@ use Rattle.records.specs.declared.Shares.{Shares}
 use Rattle.records.specs.Records.{records, Under, speedLimit}
 use Rattle.records.specs.Shares.{sharesOf}
 use Rattle.records.proofs.Records.{length-encode}
+use Rattle.records.specs.Store.{settled}
 use Rattle.records.proofs.Store.{settled-list}
 use Rattle.plan.specs.declared.Plan.{Plan}
 use Rattle.plan.specs.Tests.{firstBroken}
@@ -33,7 +34,7 @@ use Rattle.plan.specs.Plan.{componentsOf, entriesOf}
 use Rattle.plan.specs.Valid.{Valid}
 use Rattle.writing.proofs.Theorems.{read-valid}
 use Rattle.run.specs.declared.Ran.{Ran}
-use Rattle.run.specs.Run.{needed, walked, ranOf, filled, cleared, storeOf, Runnable}
+use Rattle.run.specs.Run.{needed, walked, ranOf, cleared, storeOf, Runnable}
 use Rattle.plan.proofs.Entries.{components-count}
 use Rattle.run.proofs.Stacked.{fits-record}
 use Rattle.evaluate.specs.Answer.{planOf, components, structure, callTests, evaluated, ending, refusal, answer}
@@ -102,8 +103,8 @@ module _ {p : Plan} (valid : Valid p) where
       (omega (arith, components-count p, valid .most))
 
 -- A list that a store holds takes its records' bytes.
-filled-room : (size : ℕ) (l : List Focal) (s : List ℕ) → recordBytes * length l ≤ length (filled size l s)
-filled-room size l s = simp length-append (omega (arith, length-encode l))
+settled-room : (size : ℕ) (l : List Focal) (s : List ℕ) → recordBytes * length l ≤ length (settled size l s)
+settled-room size l s = simp length-append (omega (arith, length-encode l))
 
 -- 13 and 14 clear the store, and lie above the numbers of the tests, which do not
 pub early : (k : ℕ) → k ≤ 12 → (x y : List ℕ) → cond (eqb k 13 || eqb k 14) x y ≡ y
@@ -169,7 +170,7 @@ module _ (s : List ℕ) (demand allowance : ℕ) (store : List ℕ) where
           record {
             stored = f ∙ sym (stored-by s allowance store u);
             refuses = λ h. absurd (h (ap (λ (y : Ran). y .number) e));
-            readable = λ h. (rw (m, f) (filled-room (needed (planOf s)) list store), rw back (fits .1));
+            readable = λ h. (rw (m, f) (settled-room (needed (planOf s)) list store), rw back (fits .1));
             accepts = λ h t t-is b b-is.
                 let shares : b ≡ record { belief = belief demand all; plausibility = plausibility demand all } =
                 b-is ∙ (ap (sharesOf demand) back ∙ (λ i. record { belief = belief-collect demand all i; plausibility = plausibility-collect demand all i })) in

@@ -21,7 +21,8 @@ use Rattle.plan.specs.Tests.{Unbroken, First}
 use Rattle.plan.specs.Plan.{cleanedPlan}
 use Rattle.reading.specs.Reading.{readOf}
 use Rattle.writing.specs.Writing.{planTests, writtenOf, bytesAfter, IgnoresUnused}
-use Rattle.run.specs.Run.{needed, filled, cleared}
+use Rattle.records.specs.Store.{settled}
+use Rattle.run.specs.Run.{needed, cleared}
 use Rattle.evaluate.specs.declared.Answer.{Answer}
 use Rattle.evaluate.specs.Answer.{planOf, components, structure, callTests, evaluated, refusal, answer}
 use Rattle.evaluate.specs.Store.{storeAfter}
@@ -49,8 +50,8 @@ module _ (s : List ℕ) (demand allowance : ℕ) (store : List ℕ) where
   answered = answerAt demand
 
   -- The store afterwards.
-  abbrev pub after : List ℕ
-  after = storeAfter s allowance store
+  abbrev pub afterwards : List ℕ
+  afterwards = storeAfter s allowance store
 
   -- The outcomes of all choices, and the drive's list.
   abbrev pub all : List Focal
@@ -66,9 +67,9 @@ module _ (s : List ℕ) (demand allowance : ℕ) (store : List ℕ) where
     pub refused-by : (k : ℕ) → 0 < k → (answered .number ≡ k) ↔ Broken s allowance (length store) k
     pub zeros : (k : ℕ) → 0 < k → answered .number ≡ k → answered ≡ refusal k
     -- The store has the drive's list and zeros after acceptance, zeros after 13 and 14, and is otherwise as it was.
-    pub store-accepted : answered .number ≡ 0 → after ≡ filled (needed (planOf s)) list store
-    pub store-late : (k : ℕ) → (k ≡ 13) ⊎ (k ≡ 14) → answered .number ≡ k → after ≡ cleared (needed (planOf s)) store
-    pub store-kept : (k : ℕ) → 0 < k → (k ≡ 13 → ⊥) → (k ≡ 14 → ⊥) → answered .number ≡ k → after ≡ store
+    pub store-accepted : answered .number ≡ 0 → afterwards ≡ settled (needed (planOf s)) list store
+    pub store-late : (k : ℕ) → (k ≡ 13) ⊎ (k ≡ 14) → answered .number ≡ k → afterwards ≡ cleared (needed (planOf s)) store
+    pub store-kept : (k : ℕ) → 0 < k → (k ≡ 13 → ⊥) → (k ≡ 14 → ⊥) → answered .number ≡ k → afterwards ≡ store
 
   -- Demand 2, for an accepted call.
   pub record Demand-2 : Type 0 where
@@ -82,8 +83,8 @@ module _ (s : List ℕ) (demand allowance : ℕ) (store : List ℕ) where
     pub spans : Every (Spans (structure s)) (choices (components s))
     -- The list in the store is the drive's, and is read back from there.
     pub list-length : answered .intervals ≡ length list
-    pub list-is : after ≡ filled (needed (planOf s)) list store
-    pub list-read : records (answered .intervals) after ≡ list
+    pub list-is : afterwards ≡ settled (needed (planOf s)) list store
+    pub list-read : records (answered .intervals) afterwards ≡ list
     -- It is in order, and has at each interval the weights of the outcomes that are this interval: U in all.
     pub list-ordered : InOrder list
     pub list-weight : (low high : ℕ) → weightAt low high list ≡ weightAt low high all

@@ -8,12 +8,13 @@ use Rattle.theory.specs.Focal.{Focal}
 use Rattle.theory.specs.Structure.{Tree}
 use Rattle.theory.specs.Lists.{driveList}
 use Rattle.theory.specs.Evaluation.{Evaluation, completed, refused}
-use Rattle.run.specs.Run.{needed, filled, cleared}
+use Rattle.records.specs.Store.{settled}
+use Rattle.run.specs.Run.{needed, cleared}
 use Rattle.evaluate.specs.Answer.{planOf, components, structure, ending}
 
 -- Accepted: the drive's list and zeros in the bytes that the plan needs. 13 and 14: zeros there. Every other number: unchanged.
 abbrev pub storeBy : Evaluation Tree → ℕ → List Focal → List ℕ → List ℕ
-storeBy (completed stack pairs) size list store = filled size list store
+storeBy (completed stack pairs) size list store = settled size list store
 storeBy (refused number) size list store = cond (eqb number 13 || eqb number 14) (cleared size store) store
 
 -- The store after a call.

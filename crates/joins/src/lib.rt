@@ -160,13 +160,6 @@ pub fn join_in_store(
     join_copied(op, &mut a, &mut b, store, left, na, right, nb, free)
 }
 
-// A speed or a weight of a component as a number.
-fn wide(x: u16) -> u64
-    ensures { λ r. ⌜ (r ≡ x) × (r < speedLimit) ⌝ }
-{
-    x as u64
-}
-
 // Builds the list of what a component lists at the front of out.
 fn put_listed(c: Component, out: &mut [u8]) -> usize
     requires { ⌜ (c .count ≤ mostHeld) × (listBytes ≤ length (now out)) ⌝ }
@@ -180,8 +173,8 @@ fn put_listed(c: Component, out: &mut [u8]) -> usize
     let mut m = 0;
     let mut i = 0;
     while i < count {
-        let key = wide(lows[i]) * SPEED_LIMIT + wide(highs[i]);
-        let r = records::insert(out, m, key, wide(weights[i]), m);
+        let key = numbers::widened(lows[i]) * SPEED_LIMIT + numbers::widened(highs[i]);
+        let r = records::insert(out, m, key, numbers::widened(weights[i]), m);
         m = r.count;
         i += 1;
     }

@@ -12,6 +12,13 @@ pub fn wide(x: u8) -> u64
     x as u64
 }
 
+// A number of 16 bits as a wider one.
+pub fn widened(x: u16) -> u64
+    ensures { λ r. ⌜ (r ≡ x) × (r < 65536) ⌝ }
+{
+    x as u64
+}
+
 // The number in n bytes from `at` on, most significant first.
 pub fn read_number(s: &[u8], at: usize, n: usize) -> u64
     requires { ⌜ at + n ≤ length (now s) ⌝ }

@@ -152,23 +152,17 @@ fn bad_intervals(c: Component) -> bool
     false
 }
 
-fn wide(x: u16) -> u32
-    ensures { λ r. ⌜ (r ≡ x) × (r < 65536) ⌝ }
-{
-    x as u32
-}
-
 // Rule 8 of a component.
 fn bad_sum(c: Component) -> bool
     requires { ⌜ c .count ≤ mostHeld ⌝ }
     ensures { λ r. ⌜ r ≡ badSum c ⌝ }
 {
     let k = c.count;
-    let mut sum: u32 = 0;
+    let mut sum: u64 = 0;
     for j in 0..k {
-        sum += wide(c.weights[j]);
+        sum += numbers::widened(c.weights[j]);
     }
-    sum != wide(c.total)
+    sum != numbers::widened(c.total)
 }
 
 // Which of the rules 6, 7 and 8 are broken.

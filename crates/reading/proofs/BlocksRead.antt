@@ -20,10 +20,6 @@ use Rattle.plan.proofs.Components.{flaws-next}
 use Rattle.reading.specs.declared.Blocks.{Blocks}
 use Rattle.reading.specs.Reading.{startOf, blockAt, anyCut, uncutBlocks, blocksIn, noBlocks}
 
--- The rest of a list, as a slice's part has it.
-pub rest : (s : List ℕ) (a : ℕ) → take (length s - a) (drop a s) ≡ drop a s
-rest s a = take-all (length s - a) (drop a s) (le-of-eq (length-drop a s))
-
 module _ (s : List ℕ) where
   pub blocks-none : (n : ℕ) → anyCut s n ≡ true → blocksIn s n ≡ noBlocks
   unfolding blocksIn

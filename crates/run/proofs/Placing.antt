@@ -15,7 +15,7 @@ use Rattle.records.specs.Store.{listIn, holdingFrom, zeroed, settled}
 use Rattle.records.proofs.Store.{length-from, listIn-from, listIn-before, drop-from}
 use Rattle.run.specs.declared.Stack.{Stack}
 use Rattle.run.specs.Stack.{listsBelow, withList}
-use Rattle.run.specs.Run.{filled, cleared}
+use Rattle.run.specs.Run.{cleared}
 
 -- The lists of a stack lie before the free rest of the store, and none is too long.
 abbrev pub Apart : Stack → Type 0
@@ -82,5 +82,5 @@ module _ {size n : ℕ} (q : size ≡ n) (x s after : List ℕ) (d : drop n x �
       let z : n - 0 ≡ n = omega arith in
       e ∙ rw (q, z, d)
 
-  pub fills : (l : List Focal) → after ≡ settled size l x → after ≡ filled n l s
+  pub fills : (l : List Focal) → after ≡ settled size l x → after ≡ settled n l s
   fills l e = e ∙ rw (q, d)

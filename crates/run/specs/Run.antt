@@ -37,17 +37,13 @@ abbrev pub ranOf : Evaluation (List Focal) → Ran
 ranOf (completed stack pairs) = record { number = 0; pairs = pairs; intervals = length (topmost stack) }
 ranOf (refused number) = record { number = number; pairs = 0; intervals = 0 }
 
--- The list at the front of the store, zero in the rest of its first `size` bytes, later bytes untouched.
-abbrev pub filled : ℕ → List Focal → List ℕ → List ℕ
-filled size list store = settled size list store
-
 -- Zero in its first `size` bytes, later bytes untouched.
 abbrev pub cleared : ℕ → List ℕ → List ℕ
 cleared size store = replicate size 0 ++ drop size store
 
--- The store after a run: filled with the list that is left, or cleared.
+-- The store after a run: the list that is left at its front and zeros behind it, or zeros.
 abbrev pub storeOf : ℕ → Evaluation (List Focal) → List ℕ → List ℕ
-storeOf size (completed stack pairs) store = filled size (topmost stack) store
+storeOf size (completed stack pairs) store = settled size (topmost stack) store
 storeOf size (refused number) store = cleared size store
 
 -- A plan that keeps the rules, and a store with the bytes that it needs.

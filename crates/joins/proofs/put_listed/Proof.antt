@@ -36,26 +36,26 @@ so-far c = collected (start c .args .c) (c .before .loop .i)
 abbrev this : tie.In-loop Inv-loop μ-loop → Focal
 this c = focalAt (start c .args .c) (c .before .loop .i)
 
-abbrev turn-of : tie.After-wide3 Inv-loop μ-loop → tie.In-loop Inv-loop μ-loop
+abbrev turn-of : tie.After-widened3 Inv-loop μ-loop → tie.In-loop Inv-loop μ-loop
 turn-of c = c .before .before .before .before
 
-abbrev made : tie.After-wide3 Inv-loop μ-loop → Focal
-made c = record { low = c .before .before .before .wide .result; high = c .before .before .wide2 .result; weight = c .wide3 .result }
+abbrev made : tie.After-widened3 Inv-loop μ-loop → Focal
+made c = record { low = c .before .before .before .widened .result; high = c .before .before .widened2 .result; weight = c .widened3 .result }
 
-made-is : (c : tie.After-wide3 Inv-loop μ-loop) → made c ≡ this (turn-of c)
-made-is c = λ i. record { low = c .before .before .before .wide .ensures .0 i; high = c .before .before .wide2 .ensures .0 i; weight = c .wide3 .ensures .0 i }
+made-is : (c : tie.After-widened3 Inv-loop μ-loop) → made c ≡ this (turn-of c)
+made-is c = λ i. record { low = c .before .before .before .widened .ensures .0 i; high = c .before .before .widened2 .ensures .0 i; weight = c .widened3 .ensures .0 i }
 
-this-under : (c : tie.After-wide3 Inv-loop μ-loop) → Under speedLimit (this (turn-of c))
-this-under c = subst (Under speedLimit) (made-is c) (c .before .before .before .wide .ensures .1, c .before .before .wide2 .ensures .1)
+this-under : (c : tie.After-widened3 Inv-loop μ-loop) → Under speedLimit (this (turn-of c))
+this-under c = subst (Under speedLimit) (made-is c) (c .before .before .before .widened .ensures .1, c .before .before .widened2 .ensures .1)
 
-weight-small : (c : tie.After-wide3 Inv-loop μ-loop) → this (turn-of c) .weight ≤ 65535
-weight-small c = omega (arith, c .wide3 .ensures)
+weight-small : (c : tie.After-widened3 Inv-loop μ-loop) → this (turn-of c) .weight ≤ 65535
+weight-small c = omega (arith, c .widened3 .ensures)
 
-fits : (c : tie.After-wide3 Inv-loop μ-loop) → weights (so-far (turn-of c)) + this (turn-of c) .weight < 2 ^ 64
+fits : (c : tie.After-widened3 Inv-loop μ-loop) → weights (so-far (turn-of c)) + this (turn-of c) .weight < 2 ^ 64
 fits c = let i = turn-of c in omega (arith, weight-small c, i .before .loop .inv, i .loop-test .taken, start i .pre)
 
-given : (c : tie.After-wide3 Inv-loop μ-loop) → keyed (keyOf (made c)) (made c .weight) ≡ this (turn-of c)
-given c = from-key (made c) (c .before .before .wide2 .ensures .1) ∙ made-is c
+given : (c : tie.After-widened3 Inv-loop μ-loop) → keyed (keyOf (made c)) (made c .weight) ≡ this (turn-of c)
+given c = from-key (made c) (c .before .before .widened2 .ensures .1) ∙ made-is c
 
 loop-holds : tie.Need-loop-holds Inv-loop μ-loop
 loop-holds c =
@@ -65,7 +65,7 @@ loop-holds c =
 insert-requires : tie.Need-insert-requires Inv-loop μ-loop
 insert-requires c κs =
     let i = turn-of c in
-    insertable (i .before .loop .inv .1 .1) (c .wide3 .result) (omega (arith, fits c, c .wide3 .ensures))
+    insertable (i .before .loop .inv .1 .1) (c .widened3 .result) (omega (arith, fits c, c .widened3 .ensures))
 
 loop-again : tie.Need-loop-again Inv-loop μ-loop
 loop-again c =
@@ -101,11 +101,11 @@ put-listed-spec =
     (λ c. search needs)
     (λ c. search needs)
     (λ c κs. search needs)
-    (λ c. omega (arith, c .wide .ensures))
+    (λ c. omega (arith, c .widened .ensures))
     (λ c. search needs)
     (λ c. search needs)
     (λ c κs. search needs)
-    (λ c. omega (arith, c .before .wide .ensures, c .wide2 .ensures))
+    (λ c. omega (arith, c .before .widened .ensures, c .widened2 .ensures))
     (λ c. search needs)
     (λ c. search needs)
     (λ c κs. search needs)

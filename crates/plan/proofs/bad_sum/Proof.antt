@@ -34,13 +34,13 @@ loop-again : tie.Need-loop-again Inv-loop μ-loop
 loop-again c =
     let d = c .before .before .before .before .args .t1 in
     let l = c .before .before .before .loop in
-    (omega arith, more d (l .j) (l .sum) (c .wide .result) (omega arith) (c .wide .ensures .0) ∙ l .inv .1, omega arith)
+    (omega arith, more d (l .j) (l .sum) (c .widened .result) (omega arith) (c .widened .ensures .0) ∙ l .inv .1, omega arith)
 
 returns : tie.Need-returns Inv-loop μ-loop
 returns c =
     let d = c .before .before .before .args .t1 in
     let l = c .before .before .loop in
-    rw (← all d (l .j) (l .sum) (omega arith) (l .inv .1), c .wide2 .ensures .0)
+    rw (← all d (l .j) (l .sum) (omega arith) (l .inv .1), c .widened2 .ensures .0)
 
 pub bad-sum-spec : {M : Type 1} → statement M
 bad-sum-spec =

@@ -14,7 +14,8 @@ use Rattle.plan.specs.declared.Flaws.{Flaws}
 use Rattle.plan.specs.Rules.{eitherFlaws}
 use Rattle.reading.specs.declared.Blocks.{Blocks}
 use Rattle.reading.specs.Reading.{startOf, blockAt, anyCut, uncutBlocks, blocksIn}
-use Rattle.reading.proofs.BlocksRead.{rest, cut-is, block-fits, blocks-cut, blocks-uncut, uncut-next, count-fits, next-block}
+use Rattle.numbers.proofs.Numbers.{part-rest}
+use Rattle.reading.proofs.BlocksRead.{cut-is, block-fits, blocks-cut, blocks-uncut, uncut-next, count-fits, next-block}
 use Rattle.reading.proofs.read_blocks.Statement.{statement}
 use Rattle.reading.proofs.read_blocks.Tie as tie
 
@@ -43,7 +44,7 @@ module _ (c : tie.After-read-block Inv-loop μ-loop) where
   -- What `read_block` found, of the rest of the sheet from block i on.
   found : c .read-block .result ≡ blockIn (blockAt sheet i)
   found =
-      c .read-block .ensures ∙ ap blockIn (rest sheet (c .before .before .before .loop .end)) ∙ ap (λ e. blockIn (drop e sheet)) end-is
+      c .read-block .ensures ∙ ap blockIn (part-rest sheet (c .before .before .before .loop .end)) ∙ ap (λ e. blockIn (drop e sheet)) end-is
 
   -- The block that was read lies within the sheet.
   within-sheet : c .before .before .before .loop .end + c .read-block .result .size ≤ length sheet

@@ -11,7 +11,7 @@ use Rattle.field.proofs.Fields.{length-putAll}
 use Rattle.field.proofs.Part.{part-back}
 use Rattle.block.specs.Block.{fieldsOf}
 use Rattle.plan.specs.Plan.{componentAt}
-use Rattle.reading.proofs.BlocksRead.{rest}
+use Rattle.numbers.proofs.Numbers.{part-rest}
 use Rattle.writing.specs.Writing.{endOf, blockFields}
 use Rattle.writing.proofs.Sizes.{bytesLeft, fieldsLeft, bytes-start, bytes-next, fields-start, fields-next, fields-end, end-most}
 use Rattle.writing.proofs.put_blocks.Statement.{statement}
@@ -33,7 +33,7 @@ write-block-requires : tie.Need-write-block-requires Inv-loop μ-loop
 write-block-requires c κs =
     let k = c .before .before .before .before .before in
     let l = c .before .before .before .loop in
-    (k .pre .0 .held (l .i) (omega arith), rw (rest (l .out) (l .end), length-drop) (omega (arith, bytes-next (k .args .t2) (l .i) (omega arith))))
+    (k .pre .0 .held (l .i) (omega arith), rw (part-rest (l .out) (l .end), length-drop) (omega (arith, bytes-next (k .args .t2) (l .i) (omega arith))))
 
 block-size-requires : tie.Need-block-size-requires Inv-loop μ-loop
 block-size-requires c κs =
@@ -52,7 +52,7 @@ loop-again c =
     let l = b .before .before .before .before .loop in
     let p = b .before .before .before .before .before .before .args .t2 in
     let d = componentAt p (l .i) in
-    let e = part-back (l .out) (b .write-block .last .0) (l .end) (fieldsOf d) (omega arith) (b .write-block .ensures ∙ ap (λ (x : List ℕ). putAll x 0 (fieldsOf d)) (rest (l .out) (l .end))) in (
+    let e = part-back (l .out) (b .write-block .last .0) (l .end) (fieldsOf d) (omega arith) (b .write-block .ensures ∙ ap (λ (x : List ℕ). putAll x 0 (fieldsOf d)) (part-rest (l .out) (l .end))) in (
       omega arith,
       omega (arith, bytes-next p (l .i) (omega arith), l .inv .1, c .block-size .ensures),
       rw (c .block-size .ensures) (fields-next p (l .out) _ (l .end) (l .i) (omega arith) e ∙ l .inv .2),
