@@ -7,7 +7,6 @@ use plan::SERIES_CODE;
 use plan::SHARED_CODE;
 use plan::SPARE_CODE;
 use theory::Component;
-ghost use mathlib.Core.Path.{_≡_};
 ghost use Prim.Native.Nat.{_≤_, _<_};
 
 // A sheet: the first `length` bytes.

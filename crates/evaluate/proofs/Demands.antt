@@ -31,10 +31,9 @@ use Rattle.records.proofs.Store.{settled-list}
 use Rattle.plan.specs.declared.Plan.{Plan}
 use Rattle.plan.specs.Tests.{firstBroken}
 use Rattle.plan.specs.Valid.{Valid}
-use Rattle.plan.proofs.Numbers.{none-broken, no-number, refused-by}
-use Rattle.writing.specs.Writing.{planTests}
+use Rattle.plan.proofs.Numbers.{none-broken, refused-by}
 use Rattle.writing.proofs.Cleaned.{ignores-unused}
-use Rattle.writing.proofs.Accepted.{written-number}
+use Rattle.writing.proofs.Accepted.{written-accepted, written-refused-by}
 use Rattle.writing.proofs.Theorems.{written-is-read, read-is-written, nothing-written, rest-kept}
 use Rattle.run.specs.Run.{needed, cleared}
 use Rattle.plan.proofs.Entries.{components-count}
@@ -182,11 +181,9 @@ module _ (s : List ℕ) (demand allowance : ℕ) (store : List ℕ) where
 
 pub writer : (p : Plan) (buffer : List ℕ) → Writer p buffer
 writer p buffer =
-    let tests = planTests p (length buffer) in
-    let same = written-number p (length buffer) in
     record {
-      accepted = (λ e. no-number 15 tests refl (sym same ∙ e), λ h. same ∙ none-broken h);
-      refused-by = λ k l. (λ e. refused-by tests k l .0 (sym same ∙ e), λ f. same ∙ refused-by tests k l .1 f);
+      accepted = written-accepted p (length buffer);
+      refused-by = written-refused-by p (length buffer);
       nothing-written = nothing-written p buffer;
       rest-kept = rest-kept p buffer;
       ignores-unused = ignores-unused p buffer;

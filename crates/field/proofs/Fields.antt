@@ -11,7 +11,7 @@ use Rattle.numbers.specs.Numbers.{Bytes}
 use Rattle.field.specs.Bits.{bit, fieldAt, setBit, putAt}
 use Rattle.field.specs.Fields.{Field, widthOf, Fitting, Holds, putAll}
 use Rattle.field.proofs.Field.{bit-lt, field-lt}
-use Rattle.field.proofs.Put.{length-putAt, putAt-other, putAt-same, putAt-bytes, field-ext, bits-ext}
+use Rattle.field.proofs.Put.{length-putAt, putAt-other, putAt-same, putAt-bytes, field-ext}
 
 -- two rows, one behind the other
 pub width-append : (fs gs : List Field) → widthOf (fs ++ gs) ≡ widthOf fs + widthOf gs
@@ -98,10 +98,6 @@ holds-bits s t a (f ∷ fs) h k j p q = elim (decLt j (a + f .width)) [
   | yes x ↦ field-inj s t a (f .width) (h .0 ∙ sym (k .0)) j p x
   | no x ↦ holds-bits s t (a + f .width) fs (h .1) (k .1) j (omega arith) (omega arith)
 ]
-
--- bytes are known by the fields that fill them
-pub holds-unique : (s t : List ℕ) (fs : List Field) → Bytes s → Bytes t → length s ≡ length t → widthOf fs ≡ 8 * length s → Holds s 0 fs → Holds t 0 fs → s ≡ t
-holds-unique s t fs B C l w h k = bits-ext s t l B C (λ j p. holds-bits s t 0 fs h k j (omega arith) (omega arith))
 
 -- bits, fields and rows of fields in the rest of a list from byte m
 pub bit-drop : (s : List ℕ) (m j : ℕ) → bit (drop m s) j ≡ bit s (8 * m + j)

@@ -9,7 +9,7 @@ ghost use Rattle.theory.specs.Focal.{listed, masses, weights};
 ghost use Rattle.theory.specs.Joins.{pairs};
 ghost use Rattle.theory.specs.Lists.{collect};
 ghost use Rattle.theory.specs.Limits.{mostHeld, recordBytes, listBytes};
-ghost use Rattle.records.specs.Records.{records, Under, speedLimit, keyed};
+ghost use Rattle.records.specs.Records.{records, Under, keyed};
 ghost use Rattle.records.specs.Store.{copiedFrom, holding, holdingFrom};
 ghost use Rattle.records.specs.Insertion.{Insertable};
 ghost use Rattle.joins.specs.Filling.{fill};

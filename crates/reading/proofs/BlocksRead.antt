@@ -2,12 +2,11 @@
 use mathlib.Core.Path.{_≡_, sym, ap, _∙_}
 use mathlib.Core.Bool.{Bool, true, false, _||_}
 use mathlib.Core.List.{List}
-use Prim.Native.Nat.{ℕ, zero, suc, _+_, _-_, _≤_, _<_}
-use native.Mathlib.Nat.{zero-add, le-of-eq}
+use Prim.Native.Nat.{ℕ, zero, suc, _+_, _≤_, _<_}
+use native.Mathlib.Nat.{zero-add}
 use native.Mathlib.Numerals.{add-one}
 use native.Mathlib.Omega.{arith}
-use lib.ListN.{length, set, take, drop, length-drop}
-use lib.Seq.{take-all}
+use lib.ListN.{length, set, length-drop}
 use Rattle.theory.specs.Limits.{mostHeld}
 use Rattle.block.specs.Rows.{row}
 use Rattle.block.specs.Block.{cutShort, badZeroBits, componentOf, componentIn, blockIn}

@@ -18,7 +18,7 @@ use Rattle.plan.specs.Plan.{componentsOf, zeroPlan}
 use Rattle.plan.specs.Tests.{firstBroken, anyOf, Unbroken}
 use Rattle.plan.specs.Rules.{badTotal, badIntervals, badSum, rules}
 use Rattle.plan.proofs.Tests.{any-map, any-below, within}
-use Rattle.plan.proofs.Numbers.{no-number, accepted-by, refused-by, most-number}
+use Rattle.plan.proofs.Numbers.{no-number, accepted-by, refused-by}
 use Rattle.reading.specs.declared.Reading.{Reading}
 use Rattle.reading.proofs.SheetLayout.{components-are}
 use Rattle.reading.specs.Reading.{editionIn, componentCount, lengthIn, startOf, blockAt, structurePlace, planIn, anyCut, badLayout, anyNonzero, badZeros, sheetTests, blockTests, reading, readOf, Decided}
@@ -35,9 +35,6 @@ module _ (s : List ℕ) where
   pub read-number : (readOf s) .number ≡ firstBroken (sheetTests s)
   unfolding readOf
   read-number = reading-number (firstBroken (sheetTests s)) (planIn s)
-
-  pub most-read : (readOf s) .number ≤ 11
-  most-read = rw read-number (most-number 11 (sheetTests s) refl)
 
   pub read-accepted : (readOf s) .number ≡ 0 → readOf s ≡ record { number = 0; plan = planIn s }
   unfolding readOf

@@ -7,7 +7,7 @@ use native.Mathlib.Omega.{arith}
 use lib.ListN.{length}
 use Rattle.theory.specs.Sums.{Every}
 use Rattle.theory.specs.Focal.{Focal}
-use Rattle.theory.specs.Lists.{lexically, order, Before, InOrder, merged, insertedAt, inserted, collect, insertAll}
+use Rattle.theory.specs.Lists.{lexically, order, Before, merged, insertedAt, inserted, collect, insertAll}
 use Rattle.theory.proofs.Order.{Placed, placed, before-trans, before-same, order-is}
 
 -- A new interval goes behind those before it and in front of those after it; with an equal one it becomes one.
@@ -24,15 +24,6 @@ insert-same f g p q gs = rw (order-is f g (Placed.same p q)) refl
 
 pub insert-after : (f g : Focal) → Before g f → (gs : List Focal) → inserted f (g ∷ gs) ≡ g ∷ inserted f gs
 insert-after f g b gs = rw (order-is f g (Placed.after b)) refl
-
-pub insert-front : (f : Focal) {gs : List Focal} → Every (Before f) gs → inserted f gs ≡ f ∷ gs
-insert-front f Every.none = refl
-insert-front f (Every.more {x = g} {xs = gs} b r) = insert-here f g b gs
-
--- A list in order is its own collection.
-pub collect-fixed : {fs : List Focal} → InOrder fs → collect fs ≡ fs
-collect-fixed InOrder.none = refl
-collect-fixed (InOrder.more {f = f} b r) = rw (collect-fixed r) (insert-front f b)
 
 -- Insertion commutes, whatever the weights: of two intervals either one comes before the other, or they become one.
 earlier-first : (f g h : Focal) → Before f g → Before f h → (l : List Focal) → inserted f (inserted g (h ∷ l)) ≡ f ∷ inserted g (h ∷ l)
