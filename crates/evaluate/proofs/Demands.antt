@@ -15,7 +15,8 @@ use Rattle.theory.specs.Structure.{Tree}
 use Rattle.theory.specs.Evaluation.{Evaluation, completed, refused}
 use Rattle.theory.specs.Limits.{mostTotal, mostComponents}
 use Rattle.theory.specs.Sums.{Every}
-use Rattle.theory.specs.Focal.{Focal, weights, total, Positive}
+use Rattle.theory.specs.Masses.{total}
+use Rattle.theory.specs.Focal.{Focal, weights, Positive}
 use Rattle.theory.specs.Choices.{weightWhere}
 use Rattle.theory.specs.Bounds.{Bounds}
 use Rattle.theory.proofs.Every.{every-map}

@@ -3,7 +3,7 @@ use Prim.Native.Nat.{ℕ, zero, suc}
 use mathlib.Core.List.{List, [], _∷_, _++_}
 use lib.Dec.{ltb}
 use lib.ListN.{length}
-use Rattle.theory.specs.Focal.{total}
+use Rattle.theory.specs.Masses.{total}
 use Rattle.theory.specs.declared.Component.{Component}
 use Rattle.theory.specs.declared.Entry.{Entry}
 use Rattle.theory.specs.Structure.{Tree}

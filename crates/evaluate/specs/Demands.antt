@@ -7,10 +7,12 @@ use mathlib.Core.Logic.{_⊎_, _↔_}
 use mathlib.Core.List.{List, [], _∷_, _++_}
 use lib.ListN.{length, take, drop}
 use Rattle.theory.specs.Sums.{Every}
-use Rattle.theory.specs.Focal.{Focal, weights, total}
+use Rattle.theory.specs.Masses.{total}
+use Rattle.theory.specs.Focal.{Focal, weights}
 use Rattle.theory.specs.Structure.{Tree, trees}
 use Rattle.theory.specs.Choices.{choices, outcomes, belief, plausibility, weightAt, Spans}
-use Rattle.theory.specs.Lists.{InOrder, driveList}
+use Rattle.theory.specs.Order.{InOrder}
+use Rattle.theory.specs.Lists.{driveList}
 use Rattle.theory.specs.Evaluation.{pairCount, completed, refused}
 use Rattle.theory.specs.Bounds.{Bounds}
 use Rattle.theory.specs.Limits.{mostTotal, mostComponents}

@@ -1,7 +1,7 @@
 // The call on a sheet, a demand and an allowance: the tests, the run, and what is asked of the list.
 ghost use mathlib.Core.Path.{_≡_};
 ghost use lib.ListN.{length};
-ghost use Rattle.theory.specs.Focal.{total};
+ghost use Rattle.theory.specs.Masses.{total};
 ghost use Rattle.plan.specs.Plan.{componentsOf};
 ghost use Rattle.plan.specs.Valid.{Valid};
 ghost use Rattle.evaluate.specs.Answer.{refusal, testedOf, answer};

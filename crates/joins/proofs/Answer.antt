@@ -7,7 +7,7 @@ use native.Mathlib.Omega.{arith}
 use lib.ListN.{length}
 use borrow.Author.Tests.{le-leb, lt-leb, le-ltb, lt-ltb}
 use Rattle.theory.specs.Focal.{Focal}
-use Rattle.theory.specs.Lists.{collect}
+use Rattle.theory.specs.Order.{collect}
 use Rattle.theory.specs.Limits.{mostIntervals}
 use Rattle.theory.proofs.Lists.{insertAll-collect}
 use Rattle.joins.specs.declared.Joined.{Joined}

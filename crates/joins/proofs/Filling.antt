@@ -10,7 +10,7 @@ use lib.ListN.{length}
 use borrow.Author.Tests.{le-leb, lt-leb, leb-true, leb-false}
 use Rattle.theory.specs.Sums.{Every}
 use Rattle.theory.specs.Focal.{Focal, weights}
-use Rattle.theory.specs.Lists.{InOrder, inserted, insertAll}
+use Rattle.theory.specs.Order.{InOrder, inserted, insertAll}
 use Rattle.theory.specs.Limits.{mostIntervals}
 use Rattle.theory.proofs.Sums.{sum-append}
 use Rattle.theory.proofs.Collect.{weights-insert, order-insert}

@@ -7,7 +7,7 @@ use native.Mathlib.Omega.{arith}
 use lib.ListN.{length}
 use Rattle.theory.specs.Sums.{countFrom}
 use Rattle.theory.specs.Focal.{Focal, focalAt}
-use Rattle.theory.specs.Lists.{inserted, collect}
+use Rattle.theory.specs.Order.{inserted, collect}
 use Rattle.theory.specs.declared.Component.{Component}
 use Rattle.theory.proofs.Lists.{length-insert, collect-snoc}
 

@@ -5,7 +5,7 @@ use mathlib.Core.List.{List, [], _∷_}
 use lib.Dec.{leb}
 use lib.ListN.{length}
 use Rattle.theory.specs.Focal.{Focal}
-use Rattle.theory.specs.Lists.{inserted}
+use Rattle.theory.specs.Order.{inserted}
 use Rattle.theory.specs.Limits.{mostIntervals}
 
 -- All of ps inserted into l one after the other, stopped before a 257th interval: the list as it then is, and its length, or 257 where

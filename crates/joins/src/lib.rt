@@ -5,13 +5,15 @@ ghost use mathlib.Core.List.{[]};
 ghost use Prim.Native.Nat.{_+_, _*_, _^_, _≤_, _<_};
 ghost use lib.ListN.{length};
 ghost use Rattle.theory.specs.Sums.{Every};
-ghost use Rattle.theory.specs.Focal.{listed, masses, weights};
+ghost use Rattle.theory.specs.Masses.{masses};
+ghost use Rattle.theory.specs.Focal.{listed, weights};
 ghost use Rattle.theory.specs.Joins.{pairs};
-ghost use Rattle.theory.specs.Lists.{collect};
+ghost use Rattle.theory.specs.Order.{collect};
 ghost use Rattle.theory.specs.Limits.{mostHeld, recordBytes, listBytes};
 ghost use Rattle.records.specs.Records.{records, Under, keyed};
 ghost use Rattle.records.specs.Store.{copiedFrom, holding, holdingFrom};
 ghost use Rattle.records.specs.Insertion.{Insertable};
+ghost use Rattle.joins.specs.Held.{Held};
 ghost use Rattle.joins.specs.Filling.{fill};
 ghost use Rattle.joins.specs.Joins.{joinedAs, joinNumber, joinLength, numberOfJoin, lengthOfJoin, filledRow, joinIn, joinedStore, operandLimit, Joinable};
 use records::SPEED_LIMIT;
@@ -163,8 +165,7 @@ pub fn join_in_store(
 // Builds the list of what a component lists at the front of out.
 fn put_listed(c: Component, out: &mut [u8]) -> usize
     requires { ⌜ (c .count ≤ mostHeld) × (listBytes ≤ length (now out)) ⌝ }
-    ensures { λ r. ⌜ r ≡ length (collect (listed c)) ⌝ }
-    ensures { λ _. ⌜ now (out .exit) ≡ holding (now (out .entry)) (collect (listed c)) ⌝ }
+    ensures { λ r. ⌜ Held (now (out .entry)) (now (out .exit)) r (collect (listed c)) ⌝ }
 {
     let lows = c.lows;
     let highs = c.highs;

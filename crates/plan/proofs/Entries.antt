@@ -11,15 +11,13 @@ use native.Mathlib.Omega.{arith}
 use lib.Dec.{leb, ltb, eqb}
 use lib.ListN.{length, getD, length-map}
 use Rattle.theory.specs.Sums.{countOf, countFrom}
-use Rattle.theory.specs.Focal.{focalAt, listed}
 use Rattle.theory.specs.Limits.{mostComponents, entryCount}
 use Rattle.theory.specs.Lists.{noComponent}
-use Rattle.theory.specs.declared.Component.{Component}
 use Rattle.theory.specs.declared.Entry.{Entry}
 use Rattle.theory.specs.declared.Entry.the-variants.{Component as component, Join as join}
 use Rattle.theory.specs.declared.Join.{Join}
 use Rattle.theory.specs.Structure.{named, joinsFindTwo}
-use Rattle.theory.proofs.Sums.{length-count}
+use Rattle.theory.proofs.Sums.{length-count, length-below}
 use Rattle.block.proofs.Laws.{neither}
 use Rattle.plan.specs.declared.Plan.{Plan}
 use Rattle.plan.specs.Tests.{anyOf}
@@ -92,15 +90,9 @@ getD-map f (x ∷ xs) (suc i) a b h = getD-map f xs i a b (omega arith)
 
 -- The list of f of each number below n.
 module _ {A : Type 0} (f : ℕ → A) (n : ℕ) where
-  length-below : length (map f (countFrom 0 n)) ≡ n
-  length-below = length-map (countFrom 0 n) f ∙ length-count 0 n
-
   getD-below : (z : A) (i : ℕ) → i < n → getD (map f (countFrom 0 n)) i z ≡ f i
   getD-below z i h =
       getD-map f (countFrom 0 n) i 0 z (omega (arith, length-count 0 n)) ∙ ap f (getD-count 0 n i h ∙ omega arith)
-
-pub listed-count : (c : Component) → length (listed c) ≡ c .count
-listed-count c = length-below (focalAt c) (c .count)
 
 -- The places of a plan in use.
 module _ (p : Plan) where

@@ -8,12 +8,13 @@ use native.Mathlib.Decide.{decLt}
 use native.Mathlib.Omega.{arith}
 use lib.Dec.{ltb, eqb}
 use Rattle.theory.specs.Sums.{countFrom, countOf, Every, none, more}
-use Rattle.theory.specs.Focal.{focalAt, InRange, Positive}
+use Rattle.theory.specs.Focal.{focalAt, listed, weights, InRange, Positive}
 use Rattle.theory.specs.Limits.{topSpeed, mostHeld, mostTotal, mostComponents}
 use Rattle.theory.specs.declared.Entry.{Entry}
 use Rattle.theory.specs.Structure.{named, NamedOnce}
 use Rattle.theory.specs.declared.Component.{Component}
 use Rattle.theory.proofs.Every.{every-image}
+use Rattle.theory.proofs.Masses.{range-masses, positive-masses, balanced-masses}
 use Rattle.block.proofs.Laws.{neither}
 use Rattle.plan.specs.declared.Plan.{Plan}
 use Rattle.plan.specs.Tests.{firstBroken, anyOf, Unbroken}
@@ -68,6 +69,12 @@ named-once n es k e i = elim (decLt i n) [
   | no h ↦ rw (le-ltb i n (omega arith)) (none-above i (omega arith) k)
 ]
 
+in-range-all : (c : Component) → badIntervals c ≡ false → Every InRange (listed c)
+in-range-all c h = every-image (focalAt c) (in-range c) (kept c h)
+
+sum-is : (c : Component) → badSum c ≡ false → weights (listed c) ≡ c .total
+sum-is c h = eqb-true _ _ (not-false _ h)
+
 pub valid : (p : Plan) → rule3 (p .count) ≡ false → rule4 (componentsOf p) ≡ false → firstBroken (rules p) ≡ 0 → Valid p
 unfolding rule4 rule9 rule10 rule11
 valid p e₃ e₄ e = go (no-number 11 (rules p) refl e)
@@ -85,9 +92,11 @@ valid p e₃ e₄ e = go (no-number 11 (rules p) refl e)
           most = n .most;
           counts = every-failed badCount cs (λ c. within 1 mostHeld (c .count)) e₄;
           totals = every-failed badTotal cs (λ c. within 1 mostTotal (c .total)) e₆;
-          inRange = every-failed badIntervals cs (λ c h. every-image (focalAt c) (in-range c) (kept c h)) e₇;
-          positive = every-failed badIntervals cs (λ c h. every-image (focalAt c) (weight-above c) (kept c h)) e₇;
-          balanced = every-failed badSum cs (λ c h. eqb-true _ _ (not-false _ h)) e₈;
+          listedInRange = every-failed badIntervals cs in-range-all e₇;
+          atMost = every-failed badSum cs (λ c h. omega (arith, sum-is c h)) e₈;
+          inRange = every-failed badIntervals cs (λ c h. range-masses c (in-range-all c h)) e₇;
+          positive = every-failed badIntervals cs (λ c h. positive-masses c (every-image (focalAt c) (weight-above c) (kept c h))) e₇;
+          balanced = every-failed badSum cs (λ c h. balanced-masses c (sum-is c h)) e₈;
           known = known;
           namedOnce = named-once (p .count) es known e₁₀;
           findTwo = not-false _ e₁₁;

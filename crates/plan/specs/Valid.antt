@@ -4,7 +4,8 @@ use mathlib.Core.Path.{_≡_}
 use mathlib.Core.Bool.{true}
 use lib.ListN.{length}
 use Rattle.theory.specs.Sums.{Every}
-use Rattle.theory.specs.Focal.{AllInRange, AllPositive, Balanced}
+use Rattle.theory.specs.Masses.{AllInRange, AllPositive, Balanced}
+use Rattle.theory.specs.Focal.{listed, weights, InRange}
 use Rattle.theory.specs.Limits.{mostHeld, mostTotal, mostComponents}
 use Rattle.theory.specs.Structure.{joinsFindTwo, NamedOnce}
 use Rattle.theory.specs.declared.Entry.{Entry}
@@ -23,6 +24,8 @@ pub record Valid (p : Plan) : Type 0 where
   pub most : p .count ≤ mostComponents
   pub counts : Every (λ c. (1 ≤ c .count) × (c .count ≤ mostHeld)) (componentsOf p)
   pub totals : Every (λ c. (1 ≤ c .total) × (c .total ≤ mostTotal)) (componentsOf p)
+  pub listedInRange : Every (λ c. Every InRange (listed c)) (componentsOf p)
+  pub atMost : Every (λ c. weights (listed c) ≤ c .total) (componentsOf p)
   pub inRange : AllInRange (componentsOf p)
   pub positive : AllPositive (componentsOf p)
   pub balanced : Balanced (componentsOf p)

@@ -10,7 +10,7 @@ use lib.ListN.{length, take, drop, length-append, length-drop}
 use lib.Seq.{length-take-le, take-at, drop-at, take-append-le, take-take}
 use borrow.Author.Tests.{le-leb, lt-leb}
 use Rattle.theory.specs.Focal.{Focal, weights}
-use Rattle.theory.specs.Lists.{order, inserted, merged}
+use Rattle.theory.specs.Order.{order, inserted, merged}
 use Rattle.theory.specs.Limits.{mostIntervals}
 use Rattle.records.specs.declared.Insertion.{Insertion}
 use Rattle.records.specs.Records.{bytesOf, encode, recordAt, records}

@@ -13,7 +13,7 @@ use lib.Seq.{drop-cons}
 use borrow.Author.Tests.{lt-ltb, le-ltb, eq-eqb, ne-eqb}
 use Rattle.theory.specs.Sums.{Every}
 use Rattle.theory.specs.Focal.{Focal, noFocal}
-use Rattle.theory.specs.Lists.{order, Before, InOrder, inserted, merged}
+use Rattle.theory.specs.Order.{order, Before, InOrder, inserted, merged}
 use Rattle.theory.proofs.Order.{Placed, placed, before-trans, order-before}
 use Rattle.theory.proofs.Every.{index-of-every}
 use Rattle.theory.proofs.Lists.{insert-skip, insert-here, insert-same}

@@ -5,7 +5,7 @@ use mathlib.Core.List.{List, [], _∷_}
 use lib.Dec.{leb}
 use lib.ListN.{length}
 use Rattle.theory.specs.Focal.{Focal, weights}
-use Rattle.theory.specs.Lists.{order, InOrder, inserted}
+use Rattle.theory.specs.Order.{order, InOrder, inserted}
 use Rattle.theory.specs.Limits.{mostIntervals, listBytes}
 use Rattle.records.specs.declared.Insertion.{Insertion}
 use Rattle.records.specs.Records.{records}

@@ -7,7 +7,7 @@ ghost use Prim.Native.Nat.{_+_, _*_, _-_, _^_, _≤_, _<_};
 ghost use lib.Dec.{leb, isEq};
 ghost use lib.ListN.{length};
 ghost use Rattle.theory.specs.Focal.{weights};
-ghost use Rattle.theory.specs.Lists.{order, InOrder};
+ghost use Rattle.theory.specs.Order.{order, InOrder};
 ghost use Rattle.theory.specs.Limits.{recordBytes};
 ghost use Rattle.records.specs.Records.{recordAt, records, withWeight, keyOf, keyed};
 ghost use Rattle.records.specs.Store.{withRecord, movedUp, movedToFront, zeroed, holding, listIn, settled};

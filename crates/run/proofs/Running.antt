@@ -9,14 +9,16 @@ use lib.Dec.{ltb}
 use borrow.Author.Tests.{ltb-false, le-ltb}
 use lib.ListN.{length, drop}
 use Rattle.theory.specs.Sums.{Every}
-use Rattle.theory.specs.Focal.{Focal, masses}
+use Rattle.theory.specs.Masses.{masses}
+use Rattle.theory.specs.Focal.{Focal}
 use Rattle.theory.specs.declared.Entry.{Entry}
 use Rattle.theory.specs.declared.Entry.the-variants.{Component as component, Join as join}
 use Rattle.theory.specs.Joins.{pairs}
 use Rattle.theory.specs.Structure.{named, joinsFindTwo}
-use Rattle.theory.specs.Lists.{collect, noComponent, Fits}
+use Rattle.theory.specs.Order.{collect}
+use Rattle.theory.specs.Lists.{noComponent, Fits}
 use Rattle.theory.specs.Evaluation.{Evaluation, completed, refused, refuseIf, walkLists}
-use Rattle.theory.specs.Limits.{mostHeld, mostIntervals, mostComponents, recordBytes, listBytes, storeBytes}
+use Rattle.theory.specs.Limits.{mostMasses, mostIntervals, mostComponents, recordBytes, listBytes, storeBytes}
 use Rattle.theory.specs.declared.Component.{Component}
 use Rattle.theory.specs.declared.Join.{Join}
 use Rattle.theory.proofs.Every.{index-of-every}
@@ -43,7 +45,7 @@ use Rattle.run.proofs.Placing.{Stored, on-top, stored-next}
 
 -- The bytes that the lists of so many components and joins may take, each behind the one before it.
 abbrev space : ℕ → ℕ → ℕ
-space leaves joins = recordBytes * (mostHeld * leaves + mostIntervals * joins)
+space leaves joins = recordBytes * (mostMasses * leaves + mostIntervals * joins)
 
 -- What is left to walk on lists.
 abbrev walkOn : Plan → ℕ → List Entry → List (List Focal) → ℕ → Evaluation (List Focal)
@@ -126,7 +128,7 @@ module _ {p : Plan} {store₀ : List ℕ} (ready : Runnable p store₀) {allowan
     pub push-next : Running p allowance store₀ rest (pushedStore c store st) (pushed c st)
     push-next =
         let l : List Focal = collect (masses c) in
-        let short : length l ≤ mostHeld = omega (arith, length-leaf c, of-component (ready .valid .counts)) in
+        let short : length l ≤ mostMasses = length-leaf c (of-component (ready .valid .counts) .1) in
         let top : listsBelow (pushedStore c store st) (pushed c st) (st .depth + 1) ≡ l ∷ listsBelow store st (st .depth) =
         on-top (running .stored) (ready .enough) (st .depth) (st .pairs) l (omega arith) (push-room .0) (push-room .1) (omega arith) (fits-record fits (omega arith)) in
         record {

@@ -5,14 +5,16 @@ use mathlib.Core.List.{List, [], _∷_}
 use native.Mathlib.Omega.{arith}
 use lib.ListN.{length}
 use Rattle.theory.specs.Sums.{Every}
-use Rattle.theory.specs.Focal.{Focal, masses, weights}
-use Rattle.theory.specs.Lists.{collect, Fits}
-use Rattle.theory.specs.Limits.{mostComponents}
+use Rattle.theory.specs.Masses.{masses}
+use Rattle.theory.specs.Focal.{Focal, weights}
+use Rattle.theory.specs.Order.{collect}
+use Rattle.theory.specs.Lists.{Fits}
+use Rattle.theory.specs.Limits.{mostHeld, mostMasses, mostComponents}
 use Rattle.theory.specs.declared.Component.{Component}
 use Rattle.theory.proofs.Every.{every-map}
 use Rattle.theory.proofs.Lists.{length-collect}
+use Rattle.theory.proofs.Masses.{length-masses}
 use Rattle.theory.proofs.Totals.{fits-speeds, fits-weights}
-use Rattle.plan.proofs.Entries.{listed-count}
 use Rattle.records.specs.Records.{Under, speedLimit}
 
 -- The lists of a stack, over k components together.
@@ -38,6 +40,6 @@ topmost (more {m = n} g (more {m = m} {n = others} f s a) b) =
 pub fits-record : {m : ℕ} {l : List Focal} → Fits m l → m ≤ mostComponents → Every (Under speedLimit) l × (weights l < 2 ^ 64)
 fits-record f h = (every-map (λ x r. (omega (arith, r .0), omega (arith, r .1))) (fits-speeds f h), fits-weights f h)
 
--- A component's list is no longer than what the sheet lists.
-pub length-leaf : (c : Component) → length (collect (masses c)) ≤ c .count
-length-leaf c = omega (arith, length-collect (masses c), listed-count c)
+-- A component's list is no longer than its mass assignment.
+pub length-leaf : (c : Component) → c .count ≤ mostHeld → length (collect (masses c)) ≤ mostMasses
+length-leaf c h = omega (arith, length-collect (masses c), length-masses c h)

@@ -2,8 +2,10 @@
 use Prim.Native.Nat.{ℕ, _*_, _≤_}
 use mathlib.Core.List.{List, [], _∷_, _++_}
 use lib.ListN.{length, getD, drop, replicate}
-use Rattle.theory.specs.Focal.{Focal, masses}
-use Rattle.theory.specs.Lists.{collect, noComponent}
+use Rattle.theory.specs.Masses.{masses}
+use Rattle.theory.specs.Focal.{Focal}
+use Rattle.theory.specs.Order.{collect}
+use Rattle.theory.specs.Lists.{noComponent}
 use Rattle.theory.specs.Evaluation.{Evaluation, completed, refused, walkLists}
 use Rattle.theory.specs.Limits.{storeBytes}
 use Rattle.records.specs.Store.{settled}

@@ -4,8 +4,10 @@ use mathlib.Core.Bool.{cond}
 use mathlib.Core.List.{List, [], _∷_}
 use lib.Dec.{ltb}
 use lib.ListN.{length, getD, set, replicate}
-use Rattle.theory.specs.Focal.{Focal, masses}
-use Rattle.theory.specs.Lists.{collect, joinLists}
+use Rattle.theory.specs.Masses.{masses}
+use Rattle.theory.specs.Focal.{Focal}
+use Rattle.theory.specs.Order.{collect}
+use Rattle.theory.specs.Lists.{joinLists}
 use Rattle.theory.specs.Limits.{mostHeld, mostIntervals, mostComponents, recordBytes, listBytes, storeBytes}
 use Rattle.theory.specs.declared.Component.{Component}
 use Rattle.theory.specs.declared.Join.{Join}

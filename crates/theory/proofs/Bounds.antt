@@ -10,7 +10,8 @@ use lib.Dec.{eqb}
 use borrow.Author.Tests.{eqb-true}
 use Rattle.theory.specs.Sums.{sumBy, Every}
 use Rattle.theory.specs.Limits.{topSpeed}
-use Rattle.theory.specs.Focal.{Focal, Inside, masses, total, InRange, AllInRange}
+use Rattle.theory.specs.Masses.{masses, total, AllInRange}
+use Rattle.theory.specs.Focal.{Focal, Inside, InRange}
 use Rattle.theory.specs.declared.Entry.{Entry}
 use Rattle.theory.specs.Choices.{outcomes, belief, plausibility}
 use Rattle.theory.specs.Division.{speeds, Parts, Splits, Divides, Division, putOn, shareAbove, shareTotal}

@@ -10,7 +10,8 @@ use lib.ListN.{getD, set, length, length-set, length-map, length-append, List·g
 use lib.Seq.{getD-set-same, getD-set-other, set-comm, set-at, getD-at, append-snoc}
 use borrow.Author.Tests.{eqb-false, eq-eqb, ltb-true}
 use Rattle.theory.specs.Sums.{sumBy, productBy, countFrom, countOf, Every}
-use Rattle.theory.specs.Focal.{Focal, noFocal, masses, Positive, AllPositive}
+use Rattle.theory.specs.Masses.{masses, AllPositive}
+use Rattle.theory.specs.Focal.{Focal, noFocal, Positive}
 use Rattle.theory.specs.Joins.{joined, joinedFocal}
 use Rattle.theory.specs.declared.Entry.{Entry}
 use Rattle.theory.specs.Structure.{Φ, Tree, leaf, node, trees, leaves}

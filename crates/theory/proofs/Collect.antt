@@ -10,7 +10,7 @@ use borrow.Author.Tests.{eq-eqb}
 use Rattle.theory.specs.Sums.{sumBy, Every}
 use Rattle.theory.specs.Focal.{Focal, weights, Positive}
 use Rattle.theory.specs.Choices.{weightWhere, belief, plausibility, weightAt}
-use Rattle.theory.specs.Lists.{order, Before, InOrder, merged, insertedAt, inserted, collect}
+use Rattle.theory.specs.Order.{order, Before, InOrder, merged, insertedAt, inserted, collect}
 use Rattle.theory.proofs.Sums.{sum-ext, cond-mul}
 use Rattle.theory.proofs.Order.{Placed, placed, before-trans, before-apart}
 use Rattle.theory.proofs.Every.{every-map}

@@ -7,6 +7,7 @@ pub mod Monotone
 pub mod Collect
 pub mod Steps
 pub mod Lists
+pub mod Masses
 pub mod Structure
 pub mod Bridge
 pub mod Method

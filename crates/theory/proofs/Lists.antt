@@ -1,13 +1,13 @@
 -- Where a new interval goes, and lists that are built by one insertion after the other. Assumes nothing.
-use Prim.Native.Nat.{suc, _≤_, compare, Ordering, Ordering·lt, Ordering·eq, Ordering·gt}
-use mathlib.Core.Path.{_≡_, refl, sym, ap, ap₂, _∙_}
+use Prim.Native.Nat.{suc, _≤_, Ordering, Ordering·lt, Ordering·eq, Ordering·gt}
+use mathlib.Core.Path.{_≡_, refl, sym, ap, _∙_}
 use mathlib.Core.List.{List, [], _∷_, _++_}
 use native.Mathlib.Nat.{add-assoc, add-comm}
 use native.Mathlib.Omega.{arith}
 use lib.ListN.{length}
 use Rattle.theory.specs.Sums.{Every}
 use Rattle.theory.specs.Focal.{Focal}
-use Rattle.theory.specs.Lists.{lexically, order, Before, merged, insertedAt, inserted, collect, insertAll}
+use Rattle.theory.specs.Order.{order, Before, merged, insertedAt, inserted, collect, insertAll}
 use Rattle.theory.proofs.Order.{Placed, placed, before-trans, before-same, order-is}
 
 -- A new interval goes behind those before it and in front of those after it; with an equal one it becomes one.
@@ -58,7 +58,7 @@ insert-merged f g p q (h ∷ l) = go (placed g h) (insert-merged f g p q l)
     go (Placed.same s t) r =
         insert-same f (merged g h) (p ∙ s) (q ∙ t) l ∙ (λ i. record { low = h .low; high = h .high; weight = sym (add-assoc (f .weight) (g .weight) (h .weight)) i } ∷ l)
     go (Placed.after c) r =
-        let e : order f h ≡ Ordering·gt = ap₂ (λ x y. lexically (compare x (h .low)) (compare y (h .high))) p q ∙ order-is g h (Placed.after c) in
+        let e : order f h ≡ Ordering·gt = rw (p, q) (order-is g h (Placed.after c)) in
         rw e (ap (h ∷_) r)
 
 merged-comm : (f g : Focal) → f .low ≡ g .low → f .high ≡ g .high → merged f g ≡ merged g f

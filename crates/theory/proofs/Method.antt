@@ -9,7 +9,8 @@ use lib.Dec.{ltb}
 use lib.ListN.{length}
 use Rattle.theory.specs.Sums.{sumBy}
 use Rattle.theory.specs.Limits.{mostIntervals}
-use Rattle.theory.specs.Focal.{Focal, AllPositive}
+use Rattle.theory.specs.Masses.{AllPositive}
+use Rattle.theory.specs.Focal.{Focal}
 use Rattle.theory.specs.declared.Entry.{Entry}
 use Rattle.theory.specs.declared.Entry.the-variants.{Component as component, Join as join}
 use Rattle.theory.specs.Structure.{NamedOnce, joinsFindTwo, run, Tree, leaf, node, trees}

@@ -7,7 +7,7 @@ use native.Mathlib.Omega.{arith}
 use lib.Dec.{eqb, isLe, isEq}
 use borrow.Author.Tests.{leb-true, leb-false, eqb-true, eqb-false, eq-eqb, ne-eqb}
 use Rattle.theory.specs.Focal.{Focal}
-use Rattle.theory.specs.Lists.{lexically, order, Before}
+use Rattle.theory.specs.Order.{lexically, order, Before}
 
 compare-lt : (a b : ℕ) → compare a b ≡ Ordering·lt → a < b
 compare-lt a b e =
@@ -28,13 +28,13 @@ pub data Placed (f g : Focal) : Ordering → Type 0 where
   after : Before g f → Placed f g Ordering·gt
 
 pub placed : (f g : Focal) → Placed f g (order f g)
-placed f g = go (compare (f .low) (g .low)) refl (compare (f .high) (g .high)) refl
+placed f g = go _ refl _ refl
   where
     go : (o : Ordering) → compare (f .low) (g .low) ≡ o → (p : Ordering) → compare (f .high) (g .high) ≡ p → Placed f g (lexically o p)
     go Ordering·lt e p k = before (inl (compare-lt _ _ e))
     go Ordering·gt e p k = after (inl (compare-gt _ _ e))
     go Ordering·eq e Ordering·lt k = before (inr (compare-eq _ _ e, compare-lt _ _ k))
-    go Ordering·eq e Ordering·eq k = same (compare-eq _ _ e) (compare-eq _ _ k)
+    go Ordering·eq e Ordering·eq k = same (omega (arith, compare-eq _ _ e)) (omega (arith, compare-eq _ _ k))
     go Ordering·eq e Ordering·gt k = after (inr (sym (compare-eq _ _ e), compare-gt _ _ k))
 
 pub before-trans : (f g h : Focal) → Before f g → Before g h → Before f h
@@ -72,4 +72,4 @@ order-before f g b = order-is f g (before b)
 -- Of two intervals one of which comes before the other, the test of sameness is false.
 pub before-apart : (f g : Focal) → Before f g → eqb (f .low) (g .low) && eqb (f .high) (g .high) ≡ false
 before-apart f g (inl p) = rw (ne-eqb (f .low) (g .low) (omega arith)) refl
-before-apart f g (inr p) = rw (eq-eqb (f .low) (g .low) (p .0), ne-eqb (f .high) (g .high) (omega arith)) refl
+before-apart f g (inr p) = rw (eq-eqb (f .low) (g .low) (omega arith), ne-eqb (f .high) (g .high) (omega arith)) refl

@@ -3,7 +3,8 @@
 use mathlib.Core.Path.{refl}
 use mathlib.Core.List.{List, map, Forall₂·nil, Forall₂·cons}
 use Rattle.theory.specs.Sums.{Every}
-use Rattle.theory.specs.Focal.{Focal, masses, InRange, AllInRange}
+use Rattle.theory.specs.Masses.{masses, AllInRange}
+use Rattle.theory.specs.Focal.{Focal, InRange}
 use Rattle.theory.specs.declared.Entry.{Entry}
 use Rattle.theory.specs.Choices.{choices, lows, highs, Within, Spans}
 use Rattle.theory.specs.declared.Component.{Component}

@@ -9,7 +9,8 @@ use native.Mathlib.Omega.{arith}
 use lib.Dec.{leb}
 use lib.ListN.{length}
 use Rattle.theory.specs.Sums.{sumBy, productBy}
-use Rattle.theory.specs.Focal.{Focal, masses, total}
+use Rattle.theory.specs.Masses.{masses, total}
+use Rattle.theory.specs.Focal.{Focal}
 use Rattle.theory.specs.declared.Entry.{Entry}
 use Rattle.theory.specs.Structure.{Φ}
 use Rattle.theory.specs.Choices.{choices, outcome, outcomes}

@@ -4,12 +4,14 @@ use mathlib.Core.Path.{_≡_, refl, sym, ap, _∙_}
 use mathlib.Core.List.{List, [], _∷_, map}
 use native.Mathlib.Nat.{mul-assoc, mul-pos}
 use Rattle.theory.specs.Sums.{Every}
-use Rattle.theory.specs.Focal.{Focal, masses, Positive, AllPositive}
+use Rattle.theory.specs.Masses.{masses, AllPositive}
+use Rattle.theory.specs.Focal.{Focal, Positive}
 use Rattle.theory.specs.Joins.{joined, joinedBy, pairsBy, joinedFocal, pairs}
 use Rattle.theory.specs.declared.Entry.{Entry}
 use Rattle.theory.specs.declared.Entry.the-variants.{Component as component, Join as join}
 use Rattle.theory.specs.Structure.{step, run, Tree, leaf, node}
-use Rattle.theory.specs.Lists.{collect, noComponent, outcomesOf, listOf}
+use Rattle.theory.specs.Order.{collect}
+use Rattle.theory.specs.Lists.{noComponent, outcomesOf, listOf}
 use Rattle.theory.specs.declared.Component.{Component}
 use Rattle.theory.specs.declared.Join.{Join}
 use Rattle.theory.proofs.Sums.{sum-ext, sum-scale, sum-map, sum-forEach}

@@ -7,7 +7,7 @@ use mathlib.Core.List.{List, [], _∷_, _++_, map}
 use native.Mathlib.Nat.{mul-one, add-zero, add-assoc, zero-add, mul-zero, mul-add, add-le-add, le-refl}
 use native.Mathlib.Omega.{arith}
 use lib.Dec.{eqb}
-use lib.ListN.{length}
+use lib.ListN.{length, length-map}
 use borrow.Author.Tests.{eqb-true, eqb-false, ne-eqb}
 use Rattle.theory.specs.Sums.{sumBy, forEach, oneOfEach, countFrom}
 
@@ -82,3 +82,7 @@ cond-mul false w = sym (mul-zero w)
 pub length-count : (k n : ℕ) → length (countFrom k n) ≡ n
 length-count k zero = refl
 length-count k (suc n) = ap suc (length-count (suc k) n)
+
+-- The list of f of each number below n.
+pub length-below : {A : Type 0} (f : ℕ → A) (n : ℕ) → length (map f (countFrom 0 n)) ≡ n
+length-below f n = length-map (countFrom 0 n) f ∙ length-count 0 n

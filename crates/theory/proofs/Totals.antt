@@ -8,12 +8,14 @@ use native.Mathlib.Omega.{arith}
 use lib.Pow.{pow-add}
 use lib.ListN.{length, getD, length-append}
 use Rattle.theory.specs.Sums.{sumBy, productBy, Every}
-use Rattle.theory.specs.Focal.{Focal, masses, weights, total, Balanced, UpTo, InRange, AllInRange, AllPositive}
+use Rattle.theory.specs.Masses.{masses, total, Balanced, AllInRange, AllPositive}
+use Rattle.theory.specs.Focal.{Focal, weights, UpTo, InRange}
 use Rattle.theory.specs.Limits.{mostTotal, mostComponents, topSpeed}
 use Rattle.theory.specs.Joins.{pairs, joinedFocal}
 use Rattle.theory.specs.declared.Entry.{Entry}
 use Rattle.theory.specs.Choices.{choices, outcome, outcomes}
-use Rattle.theory.specs.Lists.{driveList, collect, joinLists, noComponent, outcomesOf, listOf, Fits}
+use Rattle.theory.specs.Order.{collect}
+use Rattle.theory.specs.Lists.{driveList, joinLists, noComponent, outcomesOf, listOf, Fits}
 use Rattle.theory.specs.declared.Component.{Component}
 use Rattle.theory.specs.declared.Join.{Join}
 use Rattle.theory.specs.Structure.{NamedOnce, joinsFindTwo, Tree, leaf, node, leaves}

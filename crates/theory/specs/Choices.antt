@@ -6,7 +6,8 @@ use mathlib.Core.Path.{_≡_}
 use mathlib.Core.List.{List, map, Forall₂}
 use lib.Dec.{leb, eqb}
 use Rattle.theory.specs.Sums.{sumBy, productBy, oneOfEach}
-use Rattle.theory.specs.Focal.{Focal, focal, Inside, masses}
+use Rattle.theory.specs.Masses.{masses}
+use Rattle.theory.specs.Focal.{Focal, focal, Inside}
 use Rattle.theory.specs.declared.Entry.{Entry}
 use Rattle.theory.specs.Structure.{Φ}
 use Rattle.theory.specs.declared.Component.{Component}

@@ -5,7 +5,8 @@ use mathlib.Core.Path.{_≡_}
 use mathlib.Core.List.{List, [], _∷_, map, Forall₂}
 use lib.Dec.{leb}
 use Rattle.theory.specs.Sums.{sumBy, productBy, oneOfEach, countFrom}
-use Rattle.theory.specs.Focal.{Focal, Inside, masses}
+use Rattle.theory.specs.Masses.{masses}
+use Rattle.theory.specs.Focal.{Focal, Inside}
 use Rattle.theory.specs.Limits.{topSpeed}
 use Rattle.theory.specs.declared.Entry.{Entry}
 use Rattle.theory.specs.Structure.{Φ}

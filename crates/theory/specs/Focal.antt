@@ -1,10 +1,9 @@
--- "Words": speeds, intervals with their weights, components and the total U. Assumes nothing.
+-- "Words": speeds, intervals with their weights, and what a sheet lists of a component. Assumes nothing.
 use Prim.Native.Nat.{ℕ, _≤_, _<_}
-use mathlib.Core.Path.{_≡_}
 use mathlib.Core.List.{List, map}
 use lib.ListN.{getD}
 use Rattle.theory.specs.Limits.{topSpeed}
-use Rattle.theory.specs.Sums.{sumBy, productBy, countFrom, Every}
+use Rattle.theory.specs.Sums.{sumBy, countFrom}
 use Rattle.theory.specs.declared.Component.{Component}
 
 -- A focal element (source 002, definition 2.2): an interval of speeds, both ends inside it, with its weight.
@@ -32,35 +31,18 @@ focalAt c i = focal (getD (c .lows) i 0) (getD (c .highs) i 0) (getD (c .weights
 abbrev pub listed : Component → List Focal
 listed c = map (focalAt c) (countFrom 0 (c .count))
 
--- The mass assignment of a component (source 002, definition 2.2): each weight is a share of T.
-abbrev pub masses : Component → List Focal
-masses c = listed c
-
 -- The sum of the weights of a list.
 abbrev pub weights : List Focal → ℕ
 weights = sumBy (λ f. f .weight)
-
--- U is the product of all T.
-abbrev pub total : List Component → ℕ
-total = productBy (λ c. c .total)
 
 -- The low is at most the high, and neither is above `top`.
 pub record UpTo (top : ℕ) (f : Focal) : Type 0 where
   pub low-high : f .low ≤ f .high
   pub below : f .high ≤ top
 
--- What numbers 7 and 8 leave of an accepted sheet's components: low at most high, speeds in range, no weight 0, weights that add to T.
+-- What numbers 7 and 8 leave of an accepted sheet's intervals: low at most high, speeds in range, no weight 0.
 abbrev pub InRange : Focal → Type 0
 InRange = UpTo topSpeed
 
 abbrev pub Positive : Focal → Type 0
 Positive f = 0 < f .weight
-
-abbrev pub AllInRange : List Component → Type 0
-AllInRange = Every (λ c. Every InRange (masses c))
-
-abbrev pub AllPositive : List Component → Type 0
-AllPositive = Every (λ c. Every Positive (masses c))
-
-abbrev pub Balanced : List Component → Type 0
-Balanced = Every (λ c. weights (masses c) ≡ c .total)

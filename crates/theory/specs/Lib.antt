@@ -4,6 +4,8 @@
 pub mod Limits
 pub mod Sums
 pub mod Focal
+pub mod Order
+pub mod Masses
 pub mod Joins
 pub mod Structure
 pub mod Division

@@ -9,6 +9,10 @@ topSpeed = 4095
 abbrev pub mostHeld : ℕ
 mostHeld = 8
 
+-- The most focal elements of a component.
+abbrev pub mostMasses : ℕ
+mostMasses = mostHeld
+
 abbrev pub mostTotal : ℕ
 mostTotal = 1000
 

@@ -6,7 +6,7 @@ use native.Mathlib.Omega.{arith}
 use lib.Dec.{lit<}
 use lib.ListN.{getD}
 use Rattle.theory.specs.Sums.{forEach, countFrom, Every, none, more}
-use Rattle.theory.specs.Focal.{focalAt, weights, AllInRange, Balanced}
+use Rattle.theory.specs.Focal.{focalAt, listed, weights, InRange}
 use Rattle.theory.specs.Limits.{mostHeld, mostTotal, mostComponents}
 use Rattle.theory.specs.declared.Component.{Component}
 use Rattle.field.specs.Fields.{bits, Fitting}
@@ -31,7 +31,7 @@ weight-within c k (suc n) i a b = elim (ℕ-discrete i k) [
 ]
 
 blocks-fit : {cs : List Component} → Every (λ c. (1 ≤ c .count) × (c .count ≤ mostHeld)) cs → Every (λ c. (1 ≤ c .total) × (c .total ≤ mostTotal)) cs
-    → AllInRange cs → Balanced cs → Fitting (forEach cs fieldsOf)
+    → Every (λ c. Every InRange (listed c)) cs → Every (λ c. weights (listed c) ≤ c .total) cs → Fitting (forEach cs fieldsOf)
 unfolding Fitting
 blocks-fit none none none none = tt
 blocks-fit (more {x} {xs} k ks) (more t ts) (more r rs) (more b bs) =
@@ -55,7 +55,7 @@ sheet-fits p z k = (
     omega (arith, k .most),
     (
       omega (arith, end-most p z, k .most),
-      fitting-append (blockFields p) (structureFields p) (blocks-fit (k .counts) (k .totals) (k .inRange) (k .balanced))
+      fitting-append (blockFields p) (structureFields p) (blocks-fit (k .counts) (k .totals) (k .listedInRange) (k .atMost))
           (fitting-append (map (bits 4) (codesOf p)) (bits 4 0 ∷ []) (codes-fit (p .count) (codesOf p) (k .most) (k .known)) (lit< tt, tt)),
     ),
   ),

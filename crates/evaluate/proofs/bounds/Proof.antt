@@ -3,7 +3,7 @@ use Prim.Native.Nat.{ℕ}
 use mathlib.Core.Path.{_≡_, sym, ap, subst, _∙_}
 use mathlib.Core.List.{List}
 use lib.ListN.{length}
-use Rattle.theory.specs.Focal.{total}
+use Rattle.theory.specs.Masses.{total}
 use Rattle.plan.specs.declared.Plan.{Plan}
 use Rattle.reading.specs.declared.Reading.{Reading}
 use Rattle.plan.specs.Tests.{firstBroken}

@@ -6,7 +6,7 @@ use native.Mathlib.Nat.{mul-assoc, mul-one, one-mul, mul-le-mul, le-trans, le-of
 use native.Mathlib.Numerals.{add-one}
 use native.Mathlib.Omega.{arith}
 use Rattle.theory.specs.Limits.{mostTotal}
-use Rattle.theory.specs.Focal.{total}
+use Rattle.theory.specs.Masses.{total}
 use Rattle.theory.proofs.Totals.{thousands}
 use Rattle.plan.specs.declared.Plan.{Plan}
 use Rattle.plan.specs.Plan.{componentAt, componentsOf}

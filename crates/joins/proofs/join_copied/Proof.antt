@@ -7,7 +7,7 @@ use lib.ListN.{length, take, drop, length-drop}
 use borrow.Author.Needs.{needs}
 use Rattle.theory.specs.Focal.{Focal}
 use Rattle.theory.specs.Joins.{pairs}
-use Rattle.theory.specs.Lists.{collect}
+use Rattle.theory.specs.Order.{collect}
 use Rattle.numbers.proofs.Numbers.{part-rest}
 use Rattle.records.specs.Records.{records}
 use Rattle.records.specs.Store.{copiedFrom, listIn, holding}

@@ -3,8 +3,8 @@ use mathlib.Core.Path.{ap, _∙_}
 use mathlib.Core.List.{List}
 use Prim.Native.Nat.{ℕ}
 use borrow.Author.Needs.{needs}
-use Rattle.theory.specs.Focal.{masses}
-use Rattle.theory.specs.Lists.{collect}
+use Rattle.theory.specs.Masses.{masses}
+use Rattle.theory.specs.Order.{collect}
 use Rattle.numbers.proofs.Numbers.{part-rest}
 use Rattle.records.specs.Store.{holding}
 use Rattle.joins.proofs.Rest.{rest-lent}
@@ -15,8 +15,8 @@ returns : tie.Need-returns
 returns c =
     let p = c .before .before in
     let a = p .before .before .before .args in (
-      p .put-listed .ensures .0,
-      rest-lent (a .store .now) (a .free) _ _ (p .put-listed .ensures .1 ∙ ap (λ (l : List ℕ). holding l (collect (masses (a .c)))) (part-rest (a .store .now) (a .free))),
+      p .put-listed .ensures .count,
+      rest-lent (a .store .now) (a .free) _ _ (p .put-listed .ensures .bytes ∙ ap (λ (l : List ℕ). holding l (collect (masses (a .c)))) (part-rest (a .store .now) (a .free))),
     )
 
 pub put-in-store-spec : {M : Type 1} → statement M

@@ -6,7 +6,7 @@ use native.Mathlib.Omega.{arith}
 use borrow.Author.Needs.{needs}
 use Rattle.theory.specs.Focal.{Focal, focalAt, weights}
 use Rattle.theory.specs.declared.Component.{Component}
-use Rattle.theory.specs.Lists.{inserted}
+use Rattle.theory.specs.Order.{inserted}
 use Rattle.theory.proofs.Collect.{weights-insert}
 use Rattle.records.specs.Records.{Under, speedLimit, keyOf, keyed}
 use Rattle.records.proofs.Records.{from-key}
@@ -88,8 +88,7 @@ returns : tie.Need-returns Inv-loop μ-loop
 returns c =
     let s = c .before .before .before .before .before .before in
     let e : c .before .loop .i ≡ s .args .c .count = omega arith in
-    let h : Held (s .args .out .now) (c .before .loop .out) (c .before .loop .m) (collected (s .args .c) (s .args .c .count)) = rw e at (c .before .loop .inv .1 .1) in
-    (h .count, h .bytes)
+    rw e at (c .before .loop .inv .1 .1)
 
 pub put-listed-spec : {M : Type 1} → statement M
 put-listed-spec =

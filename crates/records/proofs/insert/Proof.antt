@@ -8,7 +8,7 @@ use native.Mathlib.Omega.{arith}
 use lib.Dec.{isEq}
 use borrow.Author.Needs.{needs}
 use Rattle.theory.specs.Focal.{Focal}
-use Rattle.theory.specs.Lists.{order}
+use Rattle.theory.specs.Order.{order}
 use Rattle.records.specs.Records.{recordAt, records, withWeight, keyed}
 use Rattle.records.specs.Store.{withRecord}
 use Rattle.records.specs.Insertion.{place}

@@ -1,7 +1,4 @@
 -- `records::matches` meets its contract. Assumes nothing.
-use mathlib.Core.Path.{ap, _∙_}
-use Prim.Native.Nat.{ℕ}
-use lib.Dec.{eqb}
 use borrow.Author.Needs.{needs}
 use Rattle.records.proofs.Place.{key-tests}
 use Rattle.records.proofs.matches.Statement.{statement}
@@ -10,7 +7,7 @@ use Rattle.records.proofs.matches.Tie as tie
 returns : tie.Need-returns
 returns c =
     let a = c .before .before .args in
-    ap (λ (k : ℕ). eqb k (a .key)) (c .key-at .ensures) ∙ key-tests (a .s .now) (a .i) (a .key) (λ i. c .before .shared-slice-known .given i .fits) .1
+    rw (c .key-at .ensures) (key-tests (a .s .now) (a .i) (a .key) (λ i. c .before .shared-slice-known .given i .fits) .1)
 
 pub matches-spec : {M : Type 1} → statement M
 matches-spec = tie.close (tie.spec (λ c κs. search needs) returns)

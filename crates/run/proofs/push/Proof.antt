@@ -11,7 +11,7 @@ with-list-requires : tie.Need-with-list-requires
 with-list-requires c κs =
     let p = c .before .before in
     let s = p .before .before .before in
-    omega (arith, p .put-in-store .ensures .0, length-leaf (s .args .c), s .pre)
+    omega (arith, p .put-in-store .ensures .0, length-leaf (s .args .c) (s .pre .count), s .pre)
 
 returns : tie.Need-returns
 returns c =
