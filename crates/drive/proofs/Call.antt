@@ -70,10 +70,10 @@ module _ (sheet : List ℕ) (demand allowance : ℕ) (list buffer : List ℕ) wh
           twelve = λ u. way .0 ∙ first .refused-by 12 (omega arith) .1 (by-test (first-behind u (here refl refl)));
           one-to-eleven = λ k l f. way .0 ∙ first .refused-by k l .1 (by-test (first-in-front f _));
         };
-    long-enough = λ h k.
+    long-enough = λ h.
         let way = long-enough h in
         let a : Answer = answer sheet demand allowance (length list) in
-        let fits = answer-fits sheet demand allowance list (omega arith) in
+        let fits = answer-fits sheet demand allowance list in
         let b5 : List ℕ = bigEndian 8 (a .intervals) ++ drop answerBytes buffer in
         let b4 : List ℕ = bigEndian 8 (a .pairs) ++ b5 in
         let b3 : List ℕ = bigEndian 8 (a .plausibility) ++ b4 in
@@ -85,9 +85,9 @@ module _ (sheet : List ℕ) (demand allowance : ℕ) (list buffer : List ℕ) wh
           total-read = rw all (read-front (a .total) b2 (fits .total));
           belief-read = rw all (read-behind (a .total) b2 0 ∙ read-front (a .belief) b3 (fits .belief));
           plausibility-read = rw all (read-behind (a .total) b2 8 ∙ (read-behind (a .belief) b3 0 ∙ read-front (a .plausibility) b4 (fits .plausibility)));
-          pairs-read =
+          pairs-read = λ k.
               rw all (read-behind (a .total) b2 16 ∙ (read-behind (a .belief) b3 8 ∙ (read-behind (a .plausibility) b4 0
-              ∙ read-front (a .pairs) b5 (fits .pairs))));
+              ∙ read-front (a .pairs) b5 (fits .pairs k))));
           intervals-read =
               rw all (read-behind (a .total) b2 24 ∙ (read-behind (a .belief) b3 16 ∙ (read-behind (a .plausibility) b4 8
               ∙ (read-behind (a .pairs) b5 0 ∙ read-front (a .intervals) (drop answerBytes buffer) (fits .intervals)))));

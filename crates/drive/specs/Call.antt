@@ -47,30 +47,31 @@ module _ (sheet : List ℕ) (demand allowance : ℕ) (list buffer : List ℕ) wh
   abbrev pub number : ℕ
   number = numberReturned sheet demand allowance list buffer
 
-  abbrev pub written : List ℕ
-  written = answerAfter sheet demand allowance list buffer
+  abbrev pub answerBuffer : List ℕ
+  answerBuffer = answerAfter sheet demand allowance list buffer
 
   abbrev pub answered : Answer
   answered = answer sheet demand allowance (length list)
 
   -- "If that has fewer than 40 bytes, it and the list buffer stay unchanged and the number is 12, unless one of 1 to 11 applies."
   pub record TooShort : Type 0 where
-    pub answer-unchanged : written ≡ buffer
+    pub answer-unchanged : answerBuffer ≡ buffer
     pub list-unchanged : listAfter sheet allowance list buffer ≡ list
     pub twelve : Every Unbroken (sheetTests sheet) → number ≡ 12
     pub one-to-eleven : (k : ℕ) → 0 < k → First (sheetTests sheet) k → number ≡ k
 
-  -- Otherwise the number and the list are the call's, and its five other answers are read back from the answer buffer.
-  pub record Written : Type 0 where
+  -- Otherwise the number and the list are the call's, and its five other answers are read back from the answer buffer. (An allowance is a 32-bit
+  -- number.)
+  pub record AnswerRead : Type 0 where
     pub number-is : number ≡ answered .number
     pub list-is : listAfter sheet allowance list buffer ≡ storeAfter sheet allowance list
-    pub total-read : numberAt written 0 8 ≡ answered .total
-    pub belief-read : numberAt written 8 8 ≡ answered .belief
-    pub plausibility-read : numberAt written 16 8 ≡ answered .plausibility
-    pub pairs-read : numberAt written 24 8 ≡ answered .pairs
-    pub intervals-read : numberAt written 32 8 ≡ answered .intervals
-    pub later-kept : drop answerBytes written ≡ drop answerBytes buffer
+    pub total-read : numberAt answerBuffer 0 8 ≡ answered .total
+    pub belief-read : numberAt answerBuffer 8 8 ≡ answered .belief
+    pub plausibility-read : numberAt answerBuffer 16 8 ≡ answered .plausibility
+    pub pairs-read : allowance < 2 ^ 64 → numberAt answerBuffer 24 8 ≡ answered .pairs
+    pub intervals-read : numberAt answerBuffer 32 8 ≡ answered .intervals
+    pub later-kept : drop answerBytes answerBuffer ≡ drop answerBytes buffer
 
   pub record Call : Type 0 where
     pub too-short : length buffer < answerBytes → TooShort
-    pub long-enough : answerBytes ≤ length buffer → allowance < 2 ^ 32 → Written
+    pub long-enough : answerBytes ≤ length buffer → AnswerRead

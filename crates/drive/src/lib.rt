@@ -7,7 +7,7 @@ ghost use Rattle.drive.specs.Call.{answerBytes, encodeAnswer, numberRetu
 use evaluate::Answer;
 
 // The bytes that an answer takes.
-const ANSWER: usize = 40;
+const ANSWER_BYTES: usize = 40;
 
 // Writes an answer at the front of a buffer that holds it.
 fn put_answer(a: Answer, buffer: &mut [u8])
@@ -35,7 +35,7 @@ pub extern "C" fn drive_bounds(
     ensures { λ _. ⌜ now (list .exit) ≡ listAfter (now (sheet .entry)) allowance (now (list .entry)) (now (answer .entry)) ⌝ }
     ensures { λ _. ⌜ now (answer .exit) ≡ answerAfter (now (sheet .entry)) demand allowance (now (list .entry)) (now (answer .entry)) ⌝ }
 {
-    if answer.len() < ANSWER {
+    if answer.len() < ANSWER_BYTES {
         let a = evaluate::bounds(sheet, demand, allowance, &mut list[0..0]);
         return a.number as u32;
     }

@@ -24,7 +24,7 @@ use Rattle.theory.proofs.Sums.{sum-le}
 use Rattle.theory.proofs.Steps.{positive-outcomesOf}
 use Rattle.theory.proofs.Method.{Leaves}
 use Rattle.theory.proofs.Collect.{order-collect, positive-collect, weightAt-collect, belief-collect, plausibility-collect}
-use Rattle.theory.proofs.Totals.{weights-driveList, total-le}
+use Rattle.theory.proofs.Totals.{weights-listOf, weights-driveList, total-le}
 use Rattle.theory.proofs.Range.{spans-choices}
 use Rattle.theory.proofs.Bounds.{bounds}
 use Rattle.records.specs.Store.{settled}
@@ -35,15 +35,16 @@ use Rattle.plan.specs.Valid.{Valid}
 use Rattle.plan.proofs.Numbers.{none-broken, refused-by}
 use Rattle.writing.proofs.Cleaned.{ignores-unused}
 use Rattle.writing.proofs.Accepted.{written-accepted, written-refused-by}
-use Rattle.writing.proofs.Theorems.{written-is-read, read-is-written, nothing-written, rest-kept}
+use Rattle.writing.proofs.Theorems.{written-longest, written-is-read, read-is-written, nothing-written, rest-kept}
 use Rattle.run.specs.Run.{needed, cleared}
 use Rattle.plan.proofs.Entries.{components-count}
 use Rattle.evaluate.specs.declared.Answer.{Answer}
-use Rattle.evaluate.specs.Answer.{planOf, components, structure, callTests, ending, refusal, answerOf}
+use Rattle.evaluate.specs.Answer.{planOf, components, structure, sheetOutcomes, sheetList, callTests, ending, refusal, answerOf}
 use Rattle.evaluate.specs.Store.{storeBy}
-use Rattle.evaluate.specs.Demands.{Passed, Broken, by-test, by-join, answerAt, answered, afterwards, all, list, Demand-1, Writer, Demand-2, RoundTrips, Demand-3}
+use Rattle.evaluate.specs.Store.{storeAfter}
+use Rattle.evaluate.specs.Demands.{Passed, Broken, by-test, by-join, answerAt, answered, Demand-1, Demand-2, Demand-3, DemandsMet, Writer, RoundTrips}
 use Rattle.evaluate.proofs.Numbers.{tests-kept, Ended, tested, stopped, passed, ended, answered-by, stored-by}
-use Rattle.evaluate.proofs.Finish.{Within, completes, within, leaves-by, drive-fits, early, late, above, ready}
+use Rattle.evaluate.proofs.Finish.{WithinAllowance, completes, within, leaves-by, drive-fits, early, late, above, ready}
 
 -- Equal functions over an equal whole have the same bounds.
 bounds-of : {es : List Entry} {cs : List Component} {v w : ℕ} {f g h k : ℕ → ℕ} → v ≡ w → ((d : ℕ) → f d ≡ h d) → ((d : ℕ) → g d ≡ k d)
@@ -95,7 +96,7 @@ module _ (s : List ℕ) (demand allowance : ℕ) (store : List ℕ) where
   size = needed (planOf s)
 
   abbrev storeIn : Evaluation Tree → List ℕ
-  storeIn v = storeBy v size (list s demand allowance store) store
+  storeIn v = storeBy v size (sheetList s) store
 
   store-late : (k : ℕ) → (k ≡ 13) ⊎ (k ≡ 14) → {v : Evaluation Tree} → Ended s allowance room v → numberOf v ≡ k → storeIn v ≡ cleared size store
   store-late k m (tested h b z) e = absurd (omega (arith, above k m))
@@ -143,11 +144,11 @@ module _ (s : List ℕ) (demand allowance : ℕ) (store : List ℕ) where
     pub demand-2 : Demand-2 s demand allowance store
     demand-2 =
         let a = answer-is demand in
-        let every = all s demand allowance store in
-        let l = list s demand allowance store in
+        let every = sheetOutcomes s in
+        let l = sheetList s in
         let total-is : (answered s demand allowance store) .total ≡ total (components s) = ap (λ (x : Answer). x .total) a in
         let n : (answered s demand allowance store) .intervals ≡ length l = ap (λ (x : Answer). x .intervals) a in
-        let settled-is : afterwards s demand allowance store ≡ settled size l store = demand-1 .store-accepted e in
+        let settled-is : storeAfter s allowance store ≡ settled size l store = demand-1 .store-accepted e in
         let fits = drive-fits valid in
         let six : length (components s) ≤ mostComponents = omega (arith, components-count (planOf s), valid .most) in
         record {
@@ -157,9 +158,10 @@ module _ (s : List ℕ) (demand allowance : ℕ) (store : List ℕ) where
           total-most = rw total-is (le-trans (total-le (every-map (λ c t. t .1) (valid .totals))) (pow-le-pow-right {n = mostTotal} (omega arith) six));
           spans = spans-choices (structure s) (valid .inRange);
           list-length = n;
-          list-is = settled-is;
           list-read = rw (n, settled-is) (settled-list size store (fits .0) (fits .1));
           list-ordered = order-collect every;
+          list-positive = rw (leaves .list) at (positive-collect (positive-outcomesOf (valid .positive) (leaves .tree)));
+          lists-weights = weights-listOf (valid .balanced);
           list-weight = λ low high. weightAt-collect low high every;
           list-weights = weights-driveList (valid .balanced) (structure s) ∙ sym total-is;
           list-belief = λ d. belief-collect d every ∙ sym (ap (λ (x : Answer). x .belief) (answer-is d));
@@ -170,7 +172,7 @@ module _ (s : List ℕ) (demand allowance : ℕ) (store : List ℕ) where
           pairs-most = allowed (rw (pass .runs) at (within (components s) allowance (structure s) [] 0 (omega arith))) (ap (λ (x : Answer). x .pairs) a);
         }
       where
-        allowed : {stack : List Tree} {pairs n : ℕ} → Within allowance (completed stack pairs) → n ≡ pairs → n ≤ allowance
+        allowed : {stack : List Tree} {pairs n : ℕ} → WithinAllowance allowance (completed stack pairs) → n ≡ pairs → n ≤ allowance
         allowed (completes h) q = omega arith
 
     pub demand-3 : Demand-3 s demand allowance store
@@ -180,6 +182,9 @@ module _ (s : List ℕ) (demand allowance : ℕ) (store : List ℕ) where
         (λ d. sym (ap (λ (x : Answer). x .plausibility) (answer-is d)))
         (bounds (structure s) (valid .inRange))
 
+  pub demands-met : DemandsMet s demand allowance store
+  demands-met = record { first = demand-1; second = demand-2; third = demand-3 }
+
 pub writer : (p : Plan) (buffer : List ℕ) → Writer p buffer
 writer p buffer =
     record {
@@ -187,6 +192,7 @@ writer p buffer =
       refused-by = written-refused-by p (length buffer);
       nothing-written = nothing-written p buffer;
       rest-kept = rest-kept p buffer;
+      longest = written-longest p (length buffer);
       ignores-unused = ignores-unused p buffer;
     }
 
@@ -195,11 +201,11 @@ round-trips = record { written-reads = written-is-read; read-writes = read-is-wr
 
 -- ---- The numbers of an answer fit 64 bits.
 
-pub record Fits64 (a : Answer) : Type 0 where
+pub record Fits64 (allowance : ℕ) (a : Answer) : Type 0 where
   pub total : a .total < 2 ^ 64
   pub belief : a .belief < 2 ^ 64
   pub plausibility : a .plausibility < 2 ^ 64
-  pub pairs : a .pairs < 2 ^ 64
+  pub pairs : allowance < 2 ^ 64 → a .pairs < 2 ^ 64
   pub intervals : a .intervals < 2 ^ 64
 
 where-le : (test : ℕ → ℕ → Bool) (l : List Focal) → weightWhere test l ≤ weights l
@@ -213,23 +219,22 @@ length-le : {l : List Focal} → Every Positive l → length l ≤ weights l
 length-le Every.none = omega arith
 length-le (Every.more p r) = omega (arith, length-le r)
 
-module _ (s : List ℕ) (demand allowance : ℕ) (store : List ℕ) (h : allowance < 2 ^ 64) where
-  pub answer-fits : Fits64 (answered s demand allowance store)
+module _ (s : List ℕ) (demand allowance : ℕ) (store : List ℕ) where
+  pub answer-fits : Fits64 allowance (answered s demand allowance store)
   answer-fits = elim (ℕ-discrete ((answered s demand allowance store) .number) 0) [
     | yes e ↦
         let second = demand-2 s demand allowance store e in
-        let l = list s demand allowance store in
+        let l = sheetList s in
         let t : weights l ≤ 1000000000000000000 = omega (arith, second .list-weights, second .total-most) in
-        let left-over = leaves s demand allowance store e in
-        let p : length l ≤ weights l = length-le (rw (left-over .list) at (positive-collect (positive-outcomesOf (valid s demand allowance store e .positive) (left-over .tree)))) in
+        let p : length l ≤ weights l = length-le (second .list-positive) in
         record {
           total = omega (arith, second .total-most);
           belief = omega (arith, second .list-belief demand, where-le (λ low high. leb demand low) l);
           plausibility = omega (arith, second .list-plausibility demand, where-le (λ low high. leb demand high) l);
-          pairs = omega (arith, second .pairs-most);
+          pairs = λ h. omega (arith, second .pairs-most);
           intervals = omega (arith, second .list-length);
         }
     | no n ↦
         rw (demand-1 s demand allowance store .zeros ((answered s demand allowance store) .number) (omega arith) refl)
-        (record { total = omega arith; belief = omega arith; plausibility = omega arith; pairs = omega arith; intervals = omega arith })
+        (record { total = omega arith; belief = omega arith; plausibility = omega arith; pairs = λ h. omega arith; intervals = omega arith })
   ]

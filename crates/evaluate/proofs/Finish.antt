@@ -15,7 +15,7 @@ use Rattle.theory.specs.declared.Component.{Component}
 use Rattle.theory.specs.declared.Entry.{Entry}
 use Rattle.theory.specs.declared.Entry.the-variants.{Component as component, Join as join}
 use Rattle.theory.specs.Structure.{NamedOnce, Tree, leaf, node}
-use Rattle.theory.specs.Choices.{outcomes, belief, plausibility}
+use Rattle.theory.specs.Choices.{belief, plausibility}
 use Rattle.theory.specs.Lists.{driveList, listOf}
 use Rattle.theory.specs.Evaluation.{Evaluation, completed, refused, refuseIf, walk, evaluate}
 use Rattle.theory.specs.Limits.{mostIntervals, recordBytes}
@@ -38,18 +38,18 @@ use Rattle.run.specs.declared.Ran.{Ran}
 use Rattle.run.specs.Run.{needed, walked, ranOf, cleared, storeOf, Runnable}
 use Rattle.plan.proofs.Entries.{components-count}
 use Rattle.run.proofs.Stacked.{fits-record}
-use Rattle.evaluate.specs.Answer.{planOf, components, structure, callTests, evaluated, ending, refusal, answer}
+use Rattle.evaluate.specs.Answer.{planOf, components, structure, sheetOutcomes, sheetList, callTests, evaluated, ending, refusal, answer}
 use Rattle.evaluate.specs.Store.{storeAfter}
 use Rattle.evaluate.proofs.Numbers.{tests-most, tests-say, answered-by, stored-by}
 
 -- ---- a completed evaluation has formed no more pairs than the allowance
 
-pub data Within (allowance : ℕ) : Evaluation Tree → Type 0 where
-  refuses : {k : ℕ} → Within allowance (refused k)
-  completes : {stack : List Tree} {pairs : ℕ} → pairs ≤ allowance → Within allowance (completed stack pairs)
+pub data WithinAllowance (allowance : ℕ) : Evaluation Tree → Type 0 where
+  refuses : {k : ℕ} → WithinAllowance allowance (refused k)
+  completes : {stack : List Tree} {pairs : ℕ} → pairs ≤ allowance → WithinAllowance allowance (completed stack pairs)
 
 module _ (cs : List Component) (allowance : ℕ) where
-  pub within : (es : List Entry) (stack : List Tree) (n : ℕ) → n ≤ allowance → Within allowance (walk allowance (listOf cs) leaf node es stack n)
+  pub within : (es : List Entry) (stack : List Tree) (n : ℕ) → n ≤ allowance → WithinAllowance allowance (walk allowance (listOf cs) leaf node es stack n)
   within [] stack n h = completes h
   within (component i ∷ es) stack n h = within es (leaf i ∷ stack) n h
   within (join op ∷ es) [] n h = within es [] n h
@@ -58,7 +58,7 @@ module _ (cs : List Component) (allowance : ℕ) where
       let m : ℕ = n + length (listOf cs x) * length (listOf cs y) in
       go (ltb allowance m) (ltb mostIntervals (length (listOf cs (node op x y)))) (λ e. within es (node op x y ∷ stack) m (ltb-false allowance m e))
     where
-      go : (a b : Bool) {v : Evaluation Tree} → (a ≡ false → Within allowance v) → Within allowance (refuseIf a 13 (refuseIf b 14 v))
+      go : (a b : Bool) {v : Evaluation Tree} → (a ≡ false → WithinAllowance allowance v) → WithinAllowance allowance (refuseIf a 13 (refuseIf b 14 v))
       go true b r = refuses
       go false true r = refuses
       go false false r = r refl
@@ -125,12 +125,6 @@ pub ready : (s store : List ℕ) → firstBroken (callTests s (length store)) �
 ready s store z = let say = tests-say s (length store) z in record { valid = read-valid s (say .0); enough = say .1 }
 
 module _ (s : List ℕ) (demand allowance : ℕ) (store : List ℕ) where
-  abbrev list : List Focal
-  list = driveList (structure s) (components s)
-
-  abbrev all : List Focal
-  all = outcomes (structure s) (components s)
-
   -- A call that a test refuses.
   pub tested-call : (k : ℕ) → firstBroken (callTests s (length store)) ≡ k → (k ≡ 0 → ⊥) → (refusal k ≡ answer s demand allowance (length store)) × (store ≡ storeAfter s allowance store)
   tested-call zero e z = absurd (z refl)
@@ -164,17 +158,17 @@ module _ (s : List ℕ) (demand allowance : ℕ) (store : List ℕ) where
             accepts = λ h. absurd (omega (arith, above k l));
           }
       go (leaves-one {stack = stack} {pairs = pairs} left-over) q e f =
-          let m : r .intervals ≡ length list = ap (λ (y : Ran). y .intervals) e in
+          let m : r .intervals ≡ length (sheetList s) = ap (λ (y : Ran). y .intervals) e in
           let u : ending s allowance (length store) ≡ completed stack pairs = rw (z, q) in
           let fits = drive-fits (ready s store z .valid) in
-          let back : records (r .intervals) x ≡ list = rw (m, f) (settled-list (needed (planOf s)) store (fits .0) (fits .1)) in
+          let back : records (r .intervals) x ≡ sheetList s = rw (m, f) (settled-list (needed (planOf s)) store (fits .0) (fits .1)) in
           record {
             stored = f ∙ sym (stored-by s allowance store u);
             refuses = λ h. absurd (h (ap (λ (y : Ran). y .number) e));
-            readable = λ h. (rw (m, f) (settled-room (needed (planOf s)) list store), rw back (fits .1));
+            readable = λ h. (rw (m, f) (settled-room (needed (planOf s)) (sheetList s) store), rw back (fits .1));
             accepts = λ h t t-is b b-is.
-                let shares : b ≡ record { belief = belief demand all; plausibility = plausibility demand all } =
-                b-is ∙ (ap (sharesOf demand) back ∙ (λ i. record { belief = belief-collect demand all i; plausibility = plausibility-collect demand all i })) in
+                let shares : b ≡ record { belief = belief demand (sheetOutcomes s); plausibility = plausibility demand (sheetOutcomes s) } =
+                b-is ∙ (ap (sharesOf demand) back ∙ (λ i. record { belief = belief-collect demand (sheetOutcomes s) i; plausibility = plausibility-collect demand (sheetOutcomes s) i })) in
                 (λ i. record { number = 0; total = t-is i; belief = shares i .belief; plausibility = shares i .plausibility; pairs = e i .pairs; intervals = m i })
                 ∙ sym (answered-by s allowance demand (length store) u);
           }

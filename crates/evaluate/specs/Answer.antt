@@ -3,6 +3,7 @@ use Prim.Native.Nat.{ℕ, zero, suc}
 use mathlib.Core.List.{List, [], _∷_, _++_}
 use lib.Dec.{ltb}
 use lib.ListN.{length}
+use Rattle.theory.specs.Focal.{Focal}
 use Rattle.theory.specs.Masses.{total}
 use Rattle.theory.specs.declared.Component.{Component}
 use Rattle.theory.specs.declared.Entry.{Entry}
@@ -27,6 +28,13 @@ components sheet = componentsOf (planOf sheet)
 
 abbrev pub structure : List ℕ → List Entry
 structure sheet = entriesOf (planOf sheet)
+
+-- The outcomes of all choices, and the drive's list.
+abbrev pub sheetOutcomes : List ℕ → List Focal
+sheetOutcomes sheet = outcomes (structure sheet) (components sheet)
+
+abbrev pub sheetList : List ℕ → List Focal
+sheetList sheet = driveList (structure sheet) (components sheet)
 
 -- The tests of a call: 1 to 11 by the sheet; then 12, the store of `room` bytes has fewer than the plan needs.
 abbrev pub callTests : List ℕ → ℕ → List Test

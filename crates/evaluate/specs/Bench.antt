@@ -2,11 +2,10 @@
 use Prim.Native.Nat.{ℕ}
 use mathlib.Core.Path.{_≡_}
 use mathlib.Core.List.{List, [], _∷_}
-use Rattle.theory.specs.Focal.{Focal, focal}
-use Rattle.theory.specs.Lists.{driveList}
+use Rattle.theory.specs.Focal.{focal}
 use Rattle.evaluate.specs.declared.Answer.{Answer}
 use Rattle.theory.specs.Limits.{storeBytes}
-use Rattle.evaluate.specs.Answer.{components, structure, refusal, answer}
+use Rattle.evaluate.specs.Answer.{sheetList, refusal, answer}
 
 -- A: T 4, [0,0] weight 1, [2,3] weight 3. B: T 3, [1,1] weight 2, [1,4] weight 1. The two bytes of the structure follow.
 abbrev pub AB : List ℕ → List ℕ
@@ -36,26 +35,22 @@ abbrev pub accepted : ℕ → ℕ → ℕ → ℕ → ℕ → Answer
 accepted total belief plausibility pairs intervals =
     record { number = 0; total = total; belief = belief; plausibility = plausibility; pairs = pairs; intervals = intervals }
 
--- The drive's list of a sheet, which an accepted call leaves in the store.
-abbrev pub listLeft : List ℕ → List Focal
-listLeft sheet = driveList (structure sheet) (components sheet)
-
 -- A call with the allowance of the table and a store that is just long enough.
 abbrev pub asked : List ℕ → ℕ → Answer
 asked sheet demand = answer sheet demand 1000 storeBytes
 
 pub record Bench : Type 0 where
-  pub P1-list : listLeft ABseries ≡ focal 0 0 3 ∷ focal 1 1 6 ∷ focal 1 3 3 ∷ []
+  pub P1-list : sheetList ABseries ≡ focal 0 0 3 ∷ focal 1 1 6 ∷ focal 1 3 3 ∷ []
   pub P1 : asked ABseries 2 ≡ accepted 12 0 3 4 3
-  pub P2-list : listLeft ABshared ≡ focal 1 1 2 ∷ focal 1 4 1 ∷ focal 3 4 6 ∷ focal 3 7 3 ∷ []
+  pub P2-list : sheetList ABshared ≡ focal 1 1 2 ∷ focal 1 4 1 ∷ focal 3 4 6 ∷ focal 3 7 3 ∷ []
   pub P2 : asked ABshared 1 ≡ accepted 12 12 12 4 4
   pub P3 : asked ABshared 3 ≡ accepted 12 9 10 4 4
   pub P4-seven : asked ABshared 7 ≡ accepted 12 0 3 4 4
   pub P4-eight : asked ABshared 8 ≡ accepted 12 0 0 4 4
   pub P5 : asked ABshared 0 ≡ accepted 12 12 12 4 4
-  pub P6-list : listLeft ABspare ≡ focal 1 1 2 ∷ focal 1 4 1 ∷ focal 2 3 6 ∷ focal 2 4 3 ∷ []
+  pub P6-list : sheetList ABspare ≡ focal 1 1 2 ∷ focal 1 4 1 ∷ focal 2 3 6 ∷ focal 2 4 3 ∷ []
   pub P6 : asked ABspare 2 ≡ accepted 12 9 10 4 4
-  pub P7-list : listLeft W ≡ focal 0 4 2000 ∷ focal 0 6 5360 ∷ focal 3 8 2211 ∷ focal 7 10 429 ∷ []
+  pub P7-list : sheetList W ≡ focal 0 4 2000 ∷ focal 0 6 5360 ∷ focal 3 8 2211 ∷ focal 7 10 429 ∷ []
   pub P7 : asked W 0 ≡ accepted 10000 10000 10000 6 4
   pub P8 : asked W 7 ≡ accepted 10000 429 2640 6 4
   pub P9-four : answer ABshared 3 4 storeBytes ≡ accepted 12 9 10 4 4

@@ -6,11 +6,10 @@ use lib.Dec.{eqb}
 use lib.ListN.{length}
 use Rattle.theory.specs.Focal.{Focal}
 use Rattle.theory.specs.Structure.{Tree}
-use Rattle.theory.specs.Lists.{driveList}
 use Rattle.theory.specs.Evaluation.{Evaluation, completed, refused}
 use Rattle.records.specs.Store.{settled}
 use Rattle.run.specs.Run.{needed, cleared}
-use Rattle.evaluate.specs.Answer.{planOf, components, structure, ending}
+use Rattle.evaluate.specs.Answer.{planOf, sheetList, ending}
 
 -- Accepted: the drive's list and zeros in the bytes that the plan needs. 13 and 14: zeros there. Every other number: unchanged.
 abbrev pub storeBy : Evaluation Tree → ℕ → List Focal → List ℕ → List ℕ
@@ -20,4 +19,4 @@ storeBy (refused number) size list store = cond (eqb number 13 || eqb number 14)
 -- The store after a call.
 unfoldable pub storeAfter : List ℕ → ℕ → List ℕ → List ℕ
 storeAfter sheet allowance store =
-    storeBy (ending sheet allowance (length store)) (needed (planOf sheet)) (driveList (structure sheet) (components sheet)) store
+    storeBy (ending sheet allowance (length store)) (needed (planOf sheet)) (sheetList sheet) store

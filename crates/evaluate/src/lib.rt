@@ -42,7 +42,7 @@ fn tested(sheet: &[u8], room: usize) -> Reading
         return r;
     }
     let p = r.plan;
-    if room < run::needed(p.count) {
+    if room < run::store_for(p.count) {
         return Reading {
             plan: p,
             number: 12,

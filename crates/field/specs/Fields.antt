@@ -6,7 +6,7 @@ use lib.ListN.{length}
 use Rattle.field.specs.Bits.{fieldAt, putAt}
 
 -- the w bits from bit a lie inside the bytes s, and make a number of 32 bits at most
-pub record Inside (s : List ℕ) (a w : ℕ) : Type 0 where
+pub record FieldInside (s : List ℕ) (a w : ℕ) : Type 0 where
   pub narrow : w ≤ 32
   pub within : a + w ≤ 8 * length s
   pub near : a + w ≤ 65536

@@ -4,7 +4,7 @@ ghost use Prim.Native.Nat.{_+_, _-_, _*_, _^_, _≤_, _<_};
 ghost use mathlib.Core.List.{[], _∷_};
 ghost use lib.ListN.{length};
 ghost use Rattle.field.specs.Bits.{fieldAt, setBit, putAt};
-ghost use Rattle.field.specs.Fields.{Inside, bits, putAll};
+ghost use Rattle.field.specs.Fields.{FieldInside, bits, putAll};
 
 // Two to the k, for widths up to 32.
 fn pow2(k: usize) -> u64
@@ -16,7 +16,7 @@ fn pow2(k: usize) -> u64
 
 // The field of width bits at bit at, out of the bytes that hold it: at most five.
 pub fn field_at(src: &[u8], at: usize, width: usize) -> u32
-    requires { ⌜ Inside (now src) at width ⌝ }
+    requires { ⌜ FieldInside (now src) at width ⌝ }
     ensures { λ r. ⌜ r ≡ fieldAt (now (src .entry)) at width ⌝ }
 {
     let end = at + width;
@@ -39,7 +39,7 @@ fn put_bit(dst: &mut [u8], j: usize, b: u64)
 
 // Sets the width bits from bit at to the lowest width bits of value; every other bit stays.
 pub fn put_field(dst: &mut [u8], at: usize, width: usize, value: u32)
-    requires { ⌜ Inside (now dst) at width ⌝ }
+    requires { ⌜ FieldInside (now dst) at width ⌝ }
     ensures { λ _. ⌜ now (dst .exit) ≡ putAt (now (dst .entry)) at width value ⌝ }
 {
     let v = value as u64;
@@ -50,7 +50,7 @@ pub fn put_field(dst: &mut [u8], at: usize, width: usize, value: u32)
 
 // Puts x, y and z as three fields in a row from bit at, of a, b and c bits.
 pub fn put_three(dst: &mut [u8], at: usize, a: usize, x: u32, b: usize, y: u32, c: usize, z: u32)
-    requires { ⌜ Inside (now dst) at a × Inside (now dst) (at + a) b × Inside (now dst) (at + a + b) c ⌝ }
+    requires { ⌜ FieldInside (now dst) at a × FieldInside (now dst) (at + a) b × FieldInside (now dst) (at + a + b) c ⌝ }
     ensures { λ _. ⌜ now (dst .exit) ≡ putAll (now (dst .entry)) at (bits a x ∷ bits b y ∷ bits c z ∷ []) ⌝ }
 {
     put_field(dst, at, a, x);

@@ -10,11 +10,11 @@ use lib.ListN.{length}
 use borrow.Author.Tests.{le-leb, lt-leb, leb-true, leb-false}
 use Rattle.theory.specs.Sums.{Every}
 use Rattle.theory.specs.Focal.{Focal, weights}
-use Rattle.theory.specs.Order.{InOrder, inserted, insertAll}
+use Rattle.theory.specs.Order.{InOrder, inserted}
 use Rattle.theory.specs.Limits.{mostIntervals}
 use Rattle.theory.proofs.Sums.{sum-append}
 use Rattle.theory.proofs.Collect.{weights-insert, order-insert}
-use Rattle.theory.proofs.Lists.{length-insert}
+use Rattle.theory.proofs.Lists.{length-insert, insertAll}
 use Rattle.records.specs.declared.Insertion.{Insertion}
 use Rattle.records.specs.Records.{records, Under, speedLimit}
 use Rattle.records.specs.Store.{holding}

@@ -2,13 +2,13 @@
 -- Assumes nothing.
 use borrow.Author.Tests.{ne-eqb, lt-ltb, le-ltb, lt-leb, le-leb, leb-false}
 use mathlib.Core.Path.{_≡_, refl, ap, _∙_}
-use mathlib.Core.Bool.{Bool, false, _&&_, _||_}
+use mathlib.Core.Bool.{Bool, false, _||_}
 use mathlib.Core.List.{List, [], _∷_, map}
 use Prim.Native.Nat.{ℕ, zero, suc, _+_, _-_, _≤_, _<_}
 use native.Mathlib.Numerals.{add-one}
 use native.Mathlib.Decide.{decLt, ℕ-discrete}
 use native.Mathlib.Omega.{arith}
-use lib.Dec.{leb, ltb, eqb}
+use lib.Dec.{leb}
 use lib.ListN.{length, getD, length-map}
 use Rattle.theory.specs.Sums.{countOf, countFrom}
 use Rattle.theory.specs.Limits.{mostComponents, entryCount}
@@ -22,7 +22,7 @@ use Rattle.block.proofs.Laws.{neither}
 use Rattle.plan.specs.declared.Plan.{Plan}
 use Rattle.plan.specs.Tests.{anyOf}
 use Rattle.plan.specs.Plan.{componentAt, componentsOf, codesOf, entryOf, structureIn, entriesOf}
-use Rattle.plan.specs.Rules.{badEntry}
+use Rattle.plan.specs.Rules.{badEntry, badCode, Rule9InWords}
 use Rattle.plan.specs.Valid.{Known, names, joins}
 use Rattle.plan.proofs.Loops.{from, from-next, from-end}
 use Rattle.plan.proofs.Tests.{any-map}
@@ -32,7 +32,7 @@ pub code-component : (code : ℕ) → (code ≡ 8 → ⊥) → (code ≡ 9 → �
 code-component code a b d = rw (ne-eqb code 8 a, ne-eqb code 9 b, ne-eqb code 10 d)
 
 -- Number 9 in document 01's words.
-pub bad-code : (n code : ℕ) → badEntry n (entryOf code) ≡ (eqb code 6 || eqb code 7 || ltb 10 code || ltb code 6 && leb n code)
+pub bad-code : Rule9InWords
 bad-code n code = elim (ℕ-discrete code 8) [
   | yes a ↦ rw a
   | no a ↦ elim (ℕ-discrete code 9) [
@@ -44,7 +44,7 @@ bad-code n code = elim (ℕ-discrete code 8) [
   ]
 ]
   where
-    other : (code ≡ 8 → ⊥) → (code ≡ 9 → ⊥) → (code ≡ 10 → ⊥) → (leb mostComponents code || leb n code) ≡ (eqb code 6 || eqb code 7 || ltb 10 code || ltb code 6 && leb n code)
+    other : (code ≡ 8 → ⊥) → (code ≡ 9 → ⊥) → (code ≡ 10 → ⊥) → (leb mostComponents code || leb n code) ≡ badCode n code
     other a b d = elim (decLt code 6) [
       | yes l ↦ rw (lt-leb 6 code l, ne-eqb code 6 (omega arith), ne-eqb code 7 (omega arith), le-ltb 10 code (omega arith), lt-ltb code 6 l)
       | no l ↦ elim (ℕ-discrete code 6) [

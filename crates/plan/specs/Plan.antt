@@ -47,6 +47,13 @@ abbrev pub entryOf : ℕ → Entry
 entryOf code =
     cond (eqb code seriesCode) (join Series) (cond (eqb code sharedCode) (join Shared) (cond (eqb code spareCode) (join Spare) (component code)))
 
+-- The code of an entry.
+abbrev pub codeOf : Entry → ℕ
+codeOf (component i) = i
+codeOf (join Series) = seriesCode
+codeOf (join Shared) = sharedCode
+codeOf (join Spare) = spareCode
+
 -- The structure that codes spell.
 abbrev pub structureIn : List ℕ → ℕ → List Entry
 structureIn entries n = map entryOf (codesIn entries n)

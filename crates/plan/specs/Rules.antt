@@ -1,5 +1,6 @@
 -- "Refusal by number", 3, 4 and 6 to 11: what is asked of a plan. Each rule is true where it is broken. Assumes nothing.
 use Prim.Native.Nat.{ℕ, _-_, _≤_, _<_}
+use mathlib.Core.Path.{_≡_}
 use mathlib.Core.Bool.{Bool, false, not, _&&_, _||_}
 use mathlib.Core.List.{List, [], _∷_, _++_}
 use lib.Dec.{ltb, leb, eqb}
@@ -13,7 +14,7 @@ use Rattle.theory.specs.declared.Component.{Component}
 use Rattle.plan.specs.declared.Plan.{Plan}
 use Rattle.plan.specs.declared.Flaws.{Flaws}
 use Rattle.plan.specs.Tests.{Test, test, outside, anyOf}
-use Rattle.plan.specs.Plan.{componentAt, componentsOf, entriesOf}
+use Rattle.plan.specs.Plan.{componentAt, componentsOf, entryOf, entriesOf}
 
 -- 3. The component count is not 1 to 6.
 abbrev pub rule3 : ℕ → Bool
@@ -50,6 +51,33 @@ badIntervals c = anyOf (badInterval c) (countFrom 0 (c .count))
 abbrev pub badSum : Component → Bool
 badSum c = not (eqb (weights (listed c)) (c .total))
 
+-- 9. An entry is 6, 7 or above 10, or names a component not below n. Every entry but the joins 8, 9 and 10 names a component, and there is
+-- no component with a number from 6 on.
+abbrev pub badEntry : ℕ → Entry → Bool
+badEntry n (component i) = leb mostComponents i || leb n i
+badEntry n (join op) = false
+
+-- The same of a code in document 01's own words, and that they agree (proved: `Entries.bad-code`).
+abbrev pub badCode : ℕ → ℕ → Bool
+badCode n code = eqb code 6 || eqb code 7 || ltb 10 code || ltb code 6 && leb n code
+
+abbrev pub Rule9InWords : Type 0
+Rule9InWords = (n code : ℕ) → badEntry n (entryOf code) ≡ badCode n code
+
+unfoldable pub rule9 : ℕ → List Entry → Bool
+rule9 n = anyOf (badEntry n)
+
+-- 10. A component is named twice or never.
+abbrev pub badNaming : List Entry → ℕ → Bool
+badNaming es i = not (eqb (countOf i (named es)) 1)
+
+unfoldable pub rule10 : ℕ → List Entry → Bool
+rule10 n es = anyOf (badNaming es) (countFrom 0 n)
+
+-- 11. A join finds fewer than two lists.
+unfoldable pub rule11 : List Entry → Bool
+rule11 es = not (joinsFindTwo es 0)
+
 -- None of 6, 7 and 8 is broken.
 abbrev pub noFlaws : Flaws
 noFlaws = record { six = false; seven = false; eight = false }
@@ -65,26 +93,6 @@ flawsIn cs = record { six = anyOf badTotal cs; seven = anyOf badIntervals cs; ei
 -- Which of 6, 7 and 8 are broken on one side or the other.
 abbrev pub eitherFlaws : Flaws → Flaws → Flaws
 eitherFlaws a b = record { six = a .six || b .six; seven = a .seven || b .seven; eight = a .eight || b .eight }
-
--- 9. An entry is 6, 7 or above 10, or names a component not below n. Every entry but the joins 8, 9 and 10 names a component, and there is
--- no component with a number from 6 on. (`bad-code` in the proofs says this of the codes in document 01's own words.)
-abbrev pub badEntry : ℕ → Entry → Bool
-badEntry n (component i) = leb mostComponents i || leb n i
-badEntry n (join op) = false
-
-unfoldable pub rule9 : ℕ → List Entry → Bool
-rule9 n = anyOf (badEntry n)
-
--- 10. A component is named twice or never.
-abbrev pub badNaming : List Entry → ℕ → Bool
-badNaming es i = not (eqb (countOf i (named es)) 1)
-
-unfoldable pub rule10 : ℕ → List Entry → Bool
-rule10 n es = anyOf (badNaming es) (countFrom 0 n)
-
--- 11. A join finds fewer than two lists.
-unfoldable pub rule11 : List Entry → Bool
-rule11 es = not (joinsFindTwo es 0)
 
 -- The tests 6, 7 and 8 of a component or of several.
 abbrev pub flawTests : Flaws → List Test

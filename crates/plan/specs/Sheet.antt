@@ -12,8 +12,8 @@ edition = 1
 abbrev pub editionBits : ℕ
 editionBits = 4
 
-abbrev pub componentBits : ℕ
-componentBits = 4
+abbrev pub componentCountBits : ℕ
+componentCountBits = 4
 
 abbrev pub lengthBits : ℕ
 lengthBits = 8

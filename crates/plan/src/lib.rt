@@ -9,7 +9,7 @@ ghost use Rattle.theory.specs.Focal.{focal};
 ghost use Rattle.theory.specs.Limits.{mostComponents, mostHeld, entryCount};
 ghost use Rattle.theory.specs.Structure.{named};
 ghost use Rattle.plan.specs.Tests.{firstBroken, outside};
-ghost use Rattle.plan.specs.Plan.{componentsOf, entryOf, structureIn};
+ghost use Rattle.plan.specs.Plan.{componentsOf, entryOf, codeOf, structureIn};
 ghost use Rattle.plan.specs.Rules.{rule4, badAlone, after, badInterval, badIntervals, badSum, badEntry, rule9, rule10, rule11};
 ghost use Rattle.plan.specs.Rules.{noFlaws, flawsOf, eitherFlaws, flawsIn, flawTests, structureTests, Counted, Sized};
 use theory::Component;
@@ -31,7 +31,7 @@ pub const EDITION: u32 = 1;
 
 pub const EDITION_BITS: usize = 4;
 
-pub const COMPONENT_BITS: usize = 4;
+pub const COMPONENT_COUNT_BITS: usize = 4;
 
 pub const LENGTH_BITS: usize = 8;
 
@@ -47,6 +47,7 @@ pub const SPARE_CODE: u8 = 10;
 // What a code stands for.
 pub fn entry_of(code: u8) -> Entry
     ensures { λ r. ⌜ r ≡ entryOf code ⌝ }
+    ensures { λ r. ⌜ codeOf r ≡ code ⌝ }
 {
     if code == SERIES_CODE {
         return Entry::Join(Join::Series);
@@ -195,7 +196,7 @@ pub fn component_flaws(c: Component) -> Flaws
     }
 }
 
-// The flaws of what has the flaws a or the flaws b.
+// The flaws of a and of b together.
 pub fn either_flaws(a: Flaws, b: Flaws) -> Flaws
     ensures { λ r. ⌜ r ≡ eitherFlaws a b ⌝ }
 {

@@ -37,7 +37,7 @@ use denote.Triple.Spec.{tripleOf}
 use denote.Triple.Walked.{says}
 use denote.Triple.Clauses.{ensured, lasts}
 use Rattle.field.specs.Bits.{fieldAt}
-use Rattle.field.specs.Fields.{Inside}
+use Rattle.field.specs.Fields.{FieldInside}
 use Rattle.reader.specs.declared.Reader.{Reader}
 use Rattle.reader.proofs.Reader as T
 use Rattle.reader.proofs.Reader.Laws as T′
@@ -139,7 +139,7 @@ module _ {M : Type 1} (𝓤 : URA M) (H : Heap 𝓤) (A : Atoms 𝓤) (W : Given
       qed W (Token κ q ∷ ‵ (OwnSlice κ s) ∷ []) ∵
       move ! (1 ∷ 0 ∷ []) $ nothing ! $ number ! n fits $ move ! (1 ∷ 0 ∷ []) $ fjoin ! $ move ! (1 ∷ 0 ∷ []) $ join ! $ frame ! $ done !
 
-  ask-take : (m : ℕ) (u : Val) (w : ℕ) → w < 2 ^ 64 → Inside (now s) m w
+  ask-take : (m : ℕ) (u : Val) (w : ℕ) → w < 2 ^ 64 → FieldInside (now s) m w
       → ent 𝓤 (⋆ 𝓤 H A (Token κ q ∷ ‵ (OwnReader κ s m u) ∷ [])) (Take 𝓤 H A mem run .pre (to-take m u w))
   ask-take m u w fits inside =
       qed W (Token κ q ∷ ‵ (OwnReader κ s m u) ∷ []) ∵ says ! inside $ frame ! $ nothing ! $ number ! w fits $ move ! (1 ∷ 0 ∷ []) $ fjoin ! $ done !
@@ -204,7 +204,7 @@ module _ {M : Type 1} (𝓤 : URA M) (H : Heap 𝓤) (A : Atoms 𝓤) (W : Given
         (λ r. exE 𝓤 _ (λ ws. snd∗ 𝓤 (sem 𝓤 H A (lasts past.ended (κ, tt) (readerAt s m, (w, tt)) ws)) (fact 𝓤 ((r .src ≡ s) × (r .at ≡ m + w))))) (k u))
 
     -- `take`
-    pub takes : K → FmC 𝓤 H (W .laws) C → Triple 𝓤 (C #reader·take) (Take 𝓤 H A mem run) → (m : ℕ) (u : Val) (w : ℕ) → w < 2 ^ 64 → Inside (now s) m w
+    pub takes : K → FmC 𝓤 H (W .laws) C → Triple 𝓤 (C #reader·take) (Take 𝓤 H A mem run) → (m : ℕ) (u : Val) (w : ℕ) → w < 2 ^ 64 → FieldInside (now s) m w
         → Opds K W (raw (Take 𝓤 H A mem run .pre (to-take m u w)) ∷ Γ) E xs (u ∷ vint w64 w ∷ [])
         → ((x : Val) (y : ℕ) → y ≡ fieldAt (now s) m w → Holds (hasTy (tyInt w32) x) × WT x
         → Seq K W (‵ (u32 .own y (x ∷ [])) ∷ Token κ q ∷ Γ) (lands C Λ E d x rest p))

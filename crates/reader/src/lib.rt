@@ -2,7 +2,7 @@
 ghost use mathlib.Core.Path.{_≡_};
 ghost use Prim.Native.Nat.{_+_, _<_, _^_};
 ghost use Rattle.field.specs.Bits.{fieldAt};
-ghost use Rattle.field.specs.Fields.{Inside};
+ghost use Rattle.field.specs.Fields.{FieldInside};
 ghost use Rattle.reader.specs.Fields.{threeAt};
 
 pub struct Reader<'a> {
@@ -26,7 +26,7 @@ pub fn from_bit<'a>(src: &'a [u8], at: usize) -> Reader<'a>
 
 // The field of width bits at the reader's next bit.
 pub fn take<'a>(r: Reader<'a>, width: usize) -> u32
-    requires { ⌜ Inside (now (r .src)) (r .at) width ⌝ }
+    requires { ⌜ FieldInside (now (r .src)) (r .at) width ⌝ }
     ensures { λ v. ⌜ v ≡ fieldAt (now (r .entry .src)) (r .entry .at) width ⌝ }
 {
     field::field_at(r.src, r.at, width)
@@ -55,7 +55,7 @@ fn triple_of(first: u32, second: u32, third: u32) -> Triple
 
 // The field of width bits at bit at, through a reader.
 pub fn one(src: &[u8], at: usize, width: usize) -> u32
-    requires { ⌜ Inside (now src) at width ⌝ }
+    requires { ⌜ FieldInside (now src) at width ⌝ }
     ensures { λ r. ⌜ r ≡ fieldAt (now (src .entry)) at width ⌝ }
 {
     let r = from_bit(src, at);
@@ -64,7 +64,7 @@ pub fn one(src: &[u8], at: usize, width: usize) -> u32
 
 // Three fields in a row from bit at, of a, b and c bits, through one reader.
 pub fn three(src: &[u8], at: usize, a: usize, b: usize, c: usize) -> Triple
-    requires { ⌜ Inside (now src) at a × Inside (now src) (at + a) b × Inside (now src) (at + a + b) c ⌝ }
+    requires { ⌜ FieldInside (now src) at a × FieldInside (now src) (at + a) b × FieldInside (now src) (at + a + b) c ⌝ }
     ensures { λ r. ⌜ r ≡ threeAt (now (src .entry)) at a b c ⌝ }
 {
     let r = from_bit(src, at);

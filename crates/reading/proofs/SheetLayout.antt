@@ -23,7 +23,7 @@ use Rattle.plan.proofs.Tests.{map-below}
 use Rattle.plan.proofs.Numbers.{no-number}
 use Rattle.plan.proofs.Valid.{counted}
 use Rattle.reading.specs.declared.Blocks.{Blocks}
-use Rattle.reading.specs.Reading.{componentCount, lengthIn, headTests, head, headIn, layoutTests, startOf, blockAt, entriesAt, planIn, anyCut, badLayout, badZeros, blockComponents, uncutBlocks, blocksIn}
+use Rattle.reading.specs.Reading.{componentCount, lengthIn, headTests, headOf, headIn, layoutTests, startOf, blockAt, entriesAt, planIn, anyCut, badLayout, badZeros, blockComponents, uncutBlocks, blocksIn}
 use Rattle.reading.proofs.BlocksRead.{blocks-none, blocks-uncut, starts-within}
 
 module _ (s : List ℕ) where
@@ -31,7 +31,7 @@ module _ (s : List ℕ) where
   unfolding headIn
   head-number = go (firstBroken (headTests s))
     where
-      go : (k : ℕ) → (head k (componentCount s)) .number ≡ k
+      go : (k : ℕ) → (headOf k (componentCount s)) .number ≡ k
       go zero = refl
       go (suc k) = refl
 

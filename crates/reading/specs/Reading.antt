@@ -1,4 +1,4 @@
--- What a sheet reads as: the least of the numbers 1 to 11 that applies, each about the whole sheet, or 0 and the plan. Assumes nothing.
+-- What a sheet reads as: the first of the numbers 1 to 11 that applies, each about the whole sheet, or 0 and the plan. Assumes nothing.
 use Prim.Native.Nat.{ℕ, zero, suc, _+_, _*_, _≤_, _<_}
 use mathlib.Core.Path.{_≡_}
 use mathlib.Core.Bool.{Bool, true, false, cond, not, _||_}
@@ -14,7 +14,7 @@ use Rattle.block.specs.Rows.{row}
 use Rattle.block.specs.Block.{sizeOf, countIn, cutShort, badZeroBits, zeroComponent, componentIn}
 use Rattle.plan.specs.declared.Plan.{Plan}
 use Rattle.plan.specs.Tests.{Test, test, firstBroken, anyOf, Unbroken, First}
-use Rattle.plan.specs.Sheet.{headBytes, edition, editionBits, componentBits, lengthBits, entryBits}
+use Rattle.plan.specs.Sheet.{headBytes, edition, editionBits, componentCountBits, lengthBits, entryBits}
 use Rattle.plan.specs.Plan.{zeroPlan}
 use Rattle.plan.specs.Rules.{rule3, noFlaws, flawsOf, flawsIn, flawTests, rules, Counted}
 use Rattle.reading.specs.declared.Head.{Head}
@@ -27,11 +27,11 @@ editionIn s = fieldAt s 0 editionBits
 
 -- The component count n in the head.
 abbrev pub componentCount : List ℕ → ℕ
-componentCount s = fieldAt s editionBits componentBits
+componentCount s = fieldAt s editionBits componentCountBits
 
 -- The sheet length in bytes in the head: the length byte.
 abbrev pub lengthIn : List ℕ → ℕ
-lengthIn s = fieldAt s (editionBits + componentBits) lengthBits
+lengthIn s = fieldAt s (editionBits + componentCountBits) lengthBits
 
 -- The byte at which block i starts: behind the head, then each behind the one before it.
 unfoldable pub startOf : List ℕ → ℕ → ℕ
@@ -126,12 +126,12 @@ pub record Decided (s : List ℕ) : Type 0 where
   pub zeros : (k : ℕ) → 0 < k → (readOf s) .number ≡ k → (readOf s) .plan ≡ zeroPlan
 
 -- What the reader's parts find. The head: its number and the count 0, or 0 and the count.
-abbrev pub head : ℕ → ℕ → Head
-head zero n = record { number = 0; count = n }
-head (suc k) n = record { number = suc k; count = 0 }
+abbrev pub headOf : ℕ → ℕ → Head
+headOf zero n = record { number = 0; count = n }
+headOf (suc k) n = record { number = suc k; count = 0 }
 
 unfoldable pub headIn : List ℕ → Head
-headIn s = head (firstBroken (headTests s)) (componentCount s)
+headIn s = headOf (firstBroken (headTests s)) (componentCount s)
 
 -- The first n blocks, read in turn, where none is cut short.
 abbrev pub uncutBlocks : List ℕ → ℕ → Blocks
@@ -154,7 +154,7 @@ unfoldable pub blocksIn : List ℕ → ℕ → Blocks
 blocksIn s n = cond (anyCut s n) noBlocks (uncutBlocks s n)
 
 -- What the layout's tests are told of a sheet that keeps 1 to 3 and of its blocks.
-pub record Told (s : List ℕ) (n : ℕ) (cut nonzero : Bool) (end : ℕ) : Type 0 where
+pub record BlocksFound (s : List ℕ) (n : ℕ) (cut nonzero : Bool) (end : ℕ) : Type 0 where
   pub count : n ≡ componentCount s
   pub counted : Counted n
   pub short : length s ≤ 255

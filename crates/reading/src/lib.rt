@@ -6,8 +6,8 @@ ghost use Rattle.theory.specs.Limits.{mostComponents, mostEntries};
 ghost use Rattle.plan.specs.Tests.{firstBroken};
 ghost use Rattle.plan.specs.Sheet.{headBytes, entryBits};
 ghost use Rattle.plan.specs.Plan.{zeroPlan};
-ghost use Rattle.reading.specs.Reading.{entriesAt, noBlocks, blocksIn, head, headIn, layoutTests, Told, readOf};
-use plan::COMPONENT_BITS;
+ghost use Rattle.reading.specs.Reading.{entriesAt, noBlocks, blocksIn, headOf, headIn, layoutTests, BlocksFound, readOf};
+use plan::COMPONENT_COUNT_BITS;
 use plan::EDITION;
 use plan::EDITION_BITS;
 use plan::ENTRY_BITS;
@@ -40,7 +40,7 @@ pub struct Blocks {
 }
 
 fn head_of(number: u8, count: usize) -> Head
-    ensures { λ r. ⌜ r ≡ head number count ⌝ }
+    ensures { λ r. ⌜ r ≡ headOf number count ⌝ }
 {
     if number != 0 {
         return Head {
@@ -62,7 +62,7 @@ fn read_head(sheet: &[u8]) -> Head
     if len < HEAD_BYTES {
         return head_of(1, 0);
     }
-    let head = reader::three(sheet, 0, EDITION_BITS, COMPONENT_BITS, LENGTH_BITS);
+    let head = reader::three(sheet, 0, EDITION_BITS, COMPONENT_COUNT_BITS, LENGTH_BITS);
     let n = head.second as usize;
     let three = plan::first(3, plan::is_outside(1, theory::MOST_COMPONENTS, n), 0);
     let two = plan::first(2, head.first != EDITION, three);
@@ -127,7 +127,7 @@ fn read_entries(sheet: &[u8], place: usize, m: usize) -> [u8; theory::MOST_ENTRI
 
 // Number 4 or 5 of a sheet whose n blocks were read up to byte end, or 0.
 fn layout_number(sheet: &[u8], n: usize, cut: bool, nonzero: bool, end: usize) -> u8
-    requires { ⌜ Told (now sheet) n cut nonzero end ⌝ }
+    requires { ⌜ BlocksFound (now sheet) n cut nonzero end ⌝ }
     ensures { λ r. ⌜ r ≡ firstBroken (layoutTests (now (sheet .entry))) ⌝ }
 {
     if cut {
@@ -156,7 +156,7 @@ fn refuse(number: u8) -> Reading
     }
 }
 
-// The plan of a sheet, or the least of the numbers 1 to 11 that applies.
+// The plan of a sheet, or the first of the numbers 1 to 11 that applies.
 pub fn read_sheet(sheet: &[u8]) -> Reading
     ensures { λ r. ⌜ r ≡ readOf (now (sheet .entry)) ⌝ }
 {

@@ -16,14 +16,14 @@ use Rattle.theory.specs.declared.Entry.the-variants.{Component as component, Jo
 use Rattle.theory.specs.Joins.{pairs}
 use Rattle.theory.specs.Structure.{named, joinsFindTwo}
 use Rattle.theory.specs.Order.{collect}
-use Rattle.theory.specs.Lists.{noComponent, Fits}
+use Rattle.theory.specs.Lists.{noComponent}
 use Rattle.theory.specs.Evaluation.{Evaluation, completed, refused, refuseIf, walkLists}
 use Rattle.theory.specs.Limits.{mostMasses, mostIntervals, mostComponents, recordBytes, listBytes, storeBytes}
 use Rattle.theory.specs.declared.Component.{Component}
 use Rattle.theory.specs.declared.Join.{Join}
 use Rattle.theory.proofs.Every.{index-of-every}
 use Rattle.theory.proofs.Structure.{named-length}
-use Rattle.theory.proofs.Totals.{fits-join, fits-leaf, fits-speeds, fits-product}
+use Rattle.theory.proofs.Totals.{fits-join, fits-leaf, fits-speeds, fits-product, Fits}
 use Rattle.records.specs.Store.{holdingFrom}
 use Rattle.records.proofs.Records.{length-records}
 use Rattle.records.proofs.Store.{drop-from}

@@ -8,13 +8,12 @@ use Rattle.theory.specs.Sums.{Every}
 use Rattle.theory.specs.Masses.{masses}
 use Rattle.theory.specs.Focal.{Focal, weights}
 use Rattle.theory.specs.Order.{collect}
-use Rattle.theory.specs.Lists.{Fits}
 use Rattle.theory.specs.Limits.{mostHeld, mostMasses, mostComponents}
 use Rattle.theory.specs.declared.Component.{Component}
 use Rattle.theory.proofs.Every.{every-map}
 use Rattle.theory.proofs.Lists.{length-collect}
 use Rattle.theory.proofs.Masses.{length-masses}
-use Rattle.theory.proofs.Totals.{fits-speeds, fits-weights}
+use Rattle.theory.proofs.Totals.{fits-speeds, fits-weights, Fits}
 use Rattle.records.specs.Records.{Under, speedLimit}
 
 -- The lists of a stack, over k components together.

@@ -34,7 +34,7 @@ pub struct Ran {
 }
 
 // The bytes of the store that a plan of n components needs.
-pub fn needed(n: usize) -> usize
+pub fn store_for(n: usize) -> usize
     ensures { λ r. ⌜ r ≡ storeFor n ⌝ }
 {
     theory::STORE_BYTES
@@ -119,7 +119,7 @@ pub fn run_plan(p: Plan, allowance: u32, store: &mut [u8]) -> Ran
 {
     let n = p.count;
     let m = plan::entry_count(n);
-    let size = needed(n);
+    let size = store_for(n);
     let mut stack = empty_stack();
     let mut i: usize = 0;
     while i < m {

@@ -7,7 +7,7 @@ use native.Mathlib.Omega.{arith}
 use lib.ListN.{length}
 use Rattle.theory.specs.Sums.{Every}
 use Rattle.theory.specs.Focal.{Focal}
-use Rattle.theory.specs.Order.{order, Before, merged, insertedAt, inserted, collect, insertAll}
+use Rattle.theory.specs.Order.{order, Before, merged, insertedAt, inserted, collect}
 use Rattle.theory.proofs.Order.{Placed, placed, before-trans, before-same, order-is}
 
 -- A new interval goes behind those before it and in front of those after it; with an equal one it becomes one.
@@ -77,6 +77,11 @@ insert-commute f g l = go (placed f g)
 pub collect-snoc : (fs : List Focal) (f : Focal) → collect (fs ++ (f ∷ [])) ≡ inserted f (collect fs)
 collect-snoc [] f = refl
 collect-snoc (g ∷ fs) f = ap (inserted g) (collect-snoc fs f) ∙ insert-commute g f (collect fs)
+
+-- All of fs inserted into a list, one after the other from the left.
+abbrev pub insertAll : List Focal → List Focal → List Focal
+insertAll l [] = l
+insertAll l (f ∷ fs) = insertAll (inserted f l) fs
 
 -- One insertion after the other collects.
 insertAll-insert : (f : Focal) (l fs : List Focal) → insertAll (inserted f l) fs ≡ inserted f (insertAll l fs)

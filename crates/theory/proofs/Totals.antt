@@ -15,7 +15,7 @@ use Rattle.theory.specs.Joins.{pairs, joinedFocal}
 use Rattle.theory.specs.declared.Entry.{Entry}
 use Rattle.theory.specs.Choices.{choices, outcome, outcomes}
 use Rattle.theory.specs.Order.{collect}
-use Rattle.theory.specs.Lists.{driveList, joinLists, noComponent, outcomesOf, listOf, Fits}
+use Rattle.theory.specs.Lists.{driveList, joinLists, noComponent, outcomesOf, listOf, totalOf}
 use Rattle.theory.specs.declared.Component.{Component}
 use Rattle.theory.specs.declared.Join.{Join}
 use Rattle.theory.specs.Structure.{NamedOnce, joinsFindTwo, Tree, leaf, node, leaves}
@@ -35,10 +35,6 @@ weights-pairs op fs gs =
     ∙ (weigh-pairs (λ a b. 1) op fs gs
     ∙ (sum-ext (λ f. ap (f .weight *_) (sym (weights-weigh gs)) ∙ mul-comm (f .weight) (weights gs)) fs
     ∙ (sum-scale (weights gs) (λ f. f .weight) fs ∙ mul-comm (weights gs) (weights fs))))
-
--- The weights of a sub-structure's list, and of the drive's, add up to the product of the totals under it.
-abbrev pub totalOf : List Component → Tree → ℕ
-totalOf cs t = productBy (λ i. (getD cs i noComponent) .total) (leaves t)
 
 product-append : {A : Type 0} (f : A → ℕ) (xs ys : List A) → productBy f (xs ++ ys) ≡ productBy f xs * productBy f ys
 product-append f [] ys = sym (one-mul (productBy f ys))
@@ -85,6 +81,11 @@ joined-upTo m n op f g p q = record {
   low-high = joined-mono op (p .low-high) (q .low-high);
   below = omega (arith, joined-le op (f .high) (g .high), p .below, q .below);
 }
+
+-- A list over m components has no speed above m times the highest of one, and its weights add to at most the m-th power of the highest T.
+pub record Fits (m : ℕ) (l : List Focal) : Type 0 where
+  pub speeds : Every (UpTo (topSpeed * m)) l
+  pub sum : weights l ≤ mostTotal ^ m
 
 fits-collect : {m : ℕ} {l : List Focal} → Fits m l → Fits m (collect l)
 fits-collect {m} {l} p = record {

@@ -1,15 +1,14 @@
 -- "Joins": the drive's list and that of a sub-structure. Assumes nothing.
-use Prim.Native.Nat.{ℕ, _*_, _^_, _≤_}
+use Prim.Native.Nat.{ℕ, _*_}
 use mathlib.Core.List.{List, []}
 use lib.ListN.{getD}
-use Rattle.theory.specs.Sums.{Every}
-use Rattle.theory.specs.Limits.{topSpeed, mostTotal}
-use Rattle.theory.specs.Focal.{Focal, weights, UpTo}
+use Rattle.theory.specs.Sums.{productBy}
+use Rattle.theory.specs.Focal.{Focal}
 use Rattle.theory.specs.Order.{collect}
 use Rattle.theory.specs.Masses.{masses}
 use Rattle.theory.specs.Joins.{pairsBy, pairs}
 use Rattle.theory.specs.declared.Entry.{Entry}
-use Rattle.theory.specs.Structure.{Tree, leaf, node}
+use Rattle.theory.specs.Structure.{Tree, leaf, node, leaves}
 use Rattle.theory.specs.Choices.{outcomes}
 use Rattle.theory.specs.declared.Component.{Component}
 use Rattle.theory.specs.declared.Join.{Join}
@@ -38,7 +37,6 @@ outcomesOf cs (node op l r) = pairs op (outcomesOf cs l) (outcomesOf cs r)
 abbrev pub listOf : List Component → Tree → List Focal
 listOf cs t = collect (outcomesOf cs t)
 
--- A list over m components has no speed above m times the highest of one, and its weights add to at most the m-th power of the highest T.
-pub record Fits (m : ℕ) (l : List Focal) : Type 0 where
-  pub speeds : Every (UpTo (topSpeed * m)) l
-  pub sum : weights l ≤ mostTotal ^ m
+-- The product of the totals under a sub-structure.
+abbrev pub totalOf : List Component → Tree → ℕ
+totalOf cs t = productBy (λ i. (getD cs i noComponent) .total) (leaves t)

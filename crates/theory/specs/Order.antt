@@ -42,8 +42,3 @@ inserted f (g ∷ gs) = insertedAt (order f g) f g gs (inserted f gs)
 abbrev pub collect : List Focal → List Focal
 collect [] = []
 collect (f ∷ fs) = inserted f (collect fs)
-
--- All of fs inserted into a list, one after the other from the left.
-abbrev pub insertAll : List Focal → List Focal → List Focal
-insertAll l [] = l
-insertAll l (f ∷ fs) = insertAll (inserted f l) fs

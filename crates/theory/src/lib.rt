@@ -1,4 +1,4 @@
-// What specs and code share of a drive: a component by value, and the joins of two speeds.
+// What specs and code share of a drive: the limits, a component by value, the entries of a structure, and the joins of two speeds.
 ghost use mathlib.Core.Path.{_≡_};
 ghost use Prim.Native.Nat.{_+_, _^_, _<_};
 ghost use Rattle.theory.specs.Joins.{joined};

@@ -60,8 +60,8 @@ module _ (p : Plan) (room : ℕ) (e : (writtenOf p room) .number ≡ 0) where
   written-sheet = written-length p room (sym (written-number p room) ∙ e)
 
   -- The longest sheet has 224 bytes.
-  pub written-longest : lengthOf p ≤ 224
-  written-longest = omega (arith, sizes p sized-plan)
+  pub written-longest : (writtenOf p room) .length ≤ 224
+  written-longest = rw written-sheet (omega (arith, sizes p sized-plan))
 
 -- A refused plan leaves the buffer, an accepted one the bytes behind the sheet.
 pub nothing-written : (p : Plan) (s : List ℕ) (k : ℕ) → 0 < k → (writtenOf p (length s)) .number ≡ k

@@ -10,7 +10,7 @@ use Rattle.block.specs.Block.{sizeOf, fieldsOf}
 use Rattle.plan.specs.declared.Plan.{Plan}
 use Rattle.writing.specs.declared.Written.{Written}
 use Rattle.plan.specs.Tests.{Test, test, firstBroken}
-use Rattle.plan.specs.Sheet.{headBytes, edition, editionBits, componentBits, lengthBits, entryBits}
+use Rattle.plan.specs.Sheet.{headBytes, edition, editionBits, componentCountBits, lengthBits, entryBits}
 use Rattle.plan.specs.Plan.{componentsOf, codesOf, cleanedPlan}
 use Rattle.plan.specs.Rules.{rule3, rule4, rules}
 
@@ -24,7 +24,7 @@ lengthOf p = endOf p + p .count
 
 -- The head as fields: edition 1, n, the length.
 abbrev pub headFields : ℕ → ℕ → List Field
-headFields n len = bits editionBits edition ∷ bits componentBits n ∷ bits lengthBits len ∷ []
+headFields n len = bits editionBits edition ∷ bits componentCountBits n ∷ bits lengthBits len ∷ []
 
 -- The blocks as fields.
 abbrev pub blockFields : Plan → List Field

@@ -8,7 +8,7 @@ ghost use Rattle.plan.specs.Sheet.{headBytes, entryBits};
 ghost use Rattle.plan.specs.Plan.{codesIn};
 ghost use Rattle.plan.specs.Rules.{Counted, Sized};
 ghost use Rattle.writing.specs.Writing.{endOf, lengthOf, blockFields, sheetFields, writtenOf, bytesAfter};
-use plan::COMPONENT_BITS;
+use plan::COMPONENT_COUNT_BITS;
 use plan::EDITION;
 use plan::EDITION_BITS;
 use plan::ENTRY_BITS;
@@ -112,7 +112,7 @@ fn put_sheet(out: &mut [u8], p: Plan, len: usize)
         0,
         EDITION_BITS,
         EDITION,
-        COMPONENT_BITS,
+        COMPONENT_COUNT_BITS,
         n as u32,
         LENGTH_BITS,
         len as u32,

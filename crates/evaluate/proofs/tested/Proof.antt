@@ -31,12 +31,12 @@ returns-2 : tie.Need-returns-2
 returns-2 c =
     let r = c .before .before .before .before .before in
     ap (λ (p : Plan). record { number = 12; plan = p }) (plan-is r)
-    ∙ tested-short (sheet r) _ (sym (number-is r) ∙ c .before .before .before .if1 .left) (omega (arith, c .before .needed .ensures))
+    ∙ tested-short (sheet r) _ (sym (number-is r) ∙ c .before .before .before .if1 .left) (omega (arith, c .before .store-for .ensures))
 
 returns-3 : tie.Need-returns-3
 returns-3 c =
     let r = c .before .before .before .before .before in
-    r .read-sheet .ensures ∙ tested-kept (sheet r) _ (sym (number-is r) ∙ c .before .before .before .if1 .left) (omega (arith, c .before .needed .ensures))
+    r .read-sheet .ensures ∙ tested-kept (sheet r) _ (sym (number-is r) ∙ c .before .before .before .if1 .left) (omega (arith, c .before .store-for .ensures))
 
 pub tested-spec : {M : Type 1} → statement M
 tested-spec = tie.close (tie.spec (λ c κs. search needs) returns (λ c κs. search needs) returns-2 returns-3)

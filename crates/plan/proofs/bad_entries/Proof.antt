@@ -22,13 +22,13 @@ returns : tie.Need-returns Inv-loop μ-loop
 unfolding rule9
 returns c =
     let a = c .before .before .before .before .before .before .args in
-    let e = ap (badEntry (a .n)) (sym (c .before .before .entry-of .ensures)) ∙ sym (c .before .bad-entry .ensures) in
+    let e = ap (badEntry (a .n)) (sym (c .before .before .entry-of .ensures .0)) ∙ sym (c .before .bad-entry .ensures) in
     search-hits (c .before .before .before .before .loop .inv) (omega arith) (e ∙ c .if1 .taken) ∙ sym (any-entry (badEntry (a .n)) (a .t1) (a .n))
 
 loop-again : tie.Need-loop-again Inv-loop μ-loop
 loop-again c =
     let a = c .before .before .before .before .before .before .args in
-    let e = ap (badEntry (a .n)) (sym (c .before .before .entry-of .ensures)) ∙ sym (c .before .bad-entry .ensures) in
+    let e = ap (badEntry (a .n)) (sym (c .before .before .entry-of .ensures .0)) ∙ sym (c .before .bad-entry .ensures) in
     search-goes-on (c .before .before .before .before .loop .inv) (omega arith) (e ∙ c .if1 .left)
 
 returns-2 : tie.Need-returns-2 Inv-loop μ-loop

@@ -31,7 +31,7 @@ returns c =
     let k = c .before .before .before .before in
     let a = k .before .before .before .before .args in
     let l = k .before .before .loop in
-    let e = sym (k .entry-of .ensures) ∙ c .before .before .enum-told2 .given .1 in
+    let e = sym (k .entry-of .ensures .0) ∙ c .before .before .enum-told2 .given .1 in
     let few = ltb-true (l .height) 2 (sym (c .before .is-short .ensures) ∙ c .if1 .taken) in
     ap not (sym (find-few (a .t1) (entryCount (a .n)) (l .j) (l .height) (omega arith) e few) ∙ l .inv .1)
 
@@ -45,7 +45,7 @@ loop-again c =
     let l = k .before .before .loop in
     let m = entryCount (a .n) in
     let h : l .j < m = omega arith in
-    let d = sym (k .entry-of .ensures) in
+    let d = sym (k .entry-of .ensures .0) in
     ⊎-elim
     (λ w. (omega arith, rw (w .2) (sym (find-component (a .t1) m (l .j) (l .height) h (d ∙ w .1 .given .1)) ∙ l .inv .1), omega (arith, w .2)))
     (λ w.

@@ -39,7 +39,7 @@ loop-again : tie.Need-loop-again Inv-loop μ-loop
 loop-again c =
     let a = c .before .before .before .before .before .args in
     let l = c .before .before .before .loop in
-    let e : c .names .result ≡ countOf (a .i) (named (entryOf (getD (a .t1) (l .j) 0) ∷ [])) = rw (← c .before .entry-of .ensures) (c .names .ensures .0) in
+    let e : c .names .result ≡ countOf (a .i) (named (entryOf (getD (a .t1) (l .j) 0) ∷ [])) = rw (← c .before .entry-of .ensures .0) (c .names .ensures .0) in
     (omega arith, more (a .t1) (a .i) (entryCount (a .n)) (l .j) (l .times) (c .names .result) (omega arith) e ∙ l .inv .1, omega arith)
 
 returns : tie.Need-returns Inv-loop μ-loop

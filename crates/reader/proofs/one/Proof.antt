@@ -31,7 +31,7 @@ use denote.Triple.Table.{entered, cited}
 use denote.Triple.Walked.{says, needs, Stays, stay-none, stay-none-slice, walkOf, goes-none, goes-none-slice, ends-at, walked, walk-meets}
 use denote.Exit.{yes}
 use Rattle.field.specs.Bits.{fieldAt}
-use Rattle.field.specs.Fields.{Inside}
+use Rattle.field.specs.Fields.{FieldInside}
 use Rattle.reader.proofs.Calls.{From, Take, Token, OwnSlice, sliceOf, local, both, landed, assigned, gone, number, starts, takes}
 use Rattle.reader.proofs.from_bit.Symbol as from-def
 use Rattle.reader.proofs.from_bit.Symbol.{name as #reader·from-bit}
@@ -48,7 +48,7 @@ abbrev stayed : Stays (one.ended .signature .params) (one.ended .kept)
 stayed = (stay-none-slice (0 ∷ []) tt (plain (λ _. u8)) yes, (stay-none (λ _. usize) yes, (stay-none (λ _. usize) yes, tt)))
 
 module _ {M : Type 1} (𝓤 : URA M) (H : Heap 𝓤) (A : Atoms 𝓤) (W : Given 𝓤 H A) (mem : Memory → SProp 𝓤) (run : Routine → Fun 𝓤)
-    (κ : Lft) (q : Share) (s : RefT (List ℕ)) (n w : ℕ) (n-fits : n < 2 ^ 64) (w-fits : w < 2 ^ 64) (ok : Inside (now s) n w) where
+    (κ : Lft) (q : Share) (s : RefT (List ℕ)) (n w : ℕ) (n-fits : n < 2 ^ 64) (w-fits : w < 2 ^ 64) (ok : FieldInside (now s) n w) where
   abbrev vals : Vals one.signature (κ, tt)
   vals = (sliceOf s ∷ [], (vint w64 n ∷ [], (vint w64 w ∷ [], tt)))
 

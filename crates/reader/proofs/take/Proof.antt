@@ -42,7 +42,7 @@ use denote.Triple.Walked.{says, needs, Stays, stay-none, walkOf, goes-none, ends
 use denote.Exit.{yes}
 use denote.Triple.Clauses.{ensured, lasts}
 use Rattle.field.specs.Bits.{fieldAt}
-use Rattle.field.specs.Fields.{Inside}
+use Rattle.field.specs.Fields.{FieldInside}
 use Rattle.reader.specs.declared.Reader.{Reader}
 use Rattle.reader.proofs.Reader as T
 use Rattle.reader.proofs.Reader.Laws as T′
@@ -65,7 +65,7 @@ module _ {M : Type 1} (𝓤 : URA M) (H : Heap 𝓤) (A : Atoms 𝓤) (mem : Mem
   StepAt = tripleOf 𝓤 H A step.signature (step.spec 𝓤 H A mem run)
 
 module _ {M : Type 1} (𝓤 : URA M) (H : Heap 𝓤) (A : Atoms 𝓤) (W : Given 𝓤 H A) (mem : Memory → SProp 𝓤) (run : Routine → Fun 𝓤)
-    (κ : Lft) (q : Share) (d : Reader) (n : ℕ) (n-fits : n < 2 ^ 64) (ok : Inside (now (d .src)) (d .at) n) where
+    (κ : Lft) (q : Share) (d : Reader) (n : ℕ) (n-fits : n < 2 ^ 64) (ok : FieldInside (now (d .src)) (d .at) n) where
   abbrev mach : Val
   mach = T′.lowered d
 

@@ -36,7 +36,7 @@ use denote.Triple.Walked.{says, needs, Stays, stay-none, stay-none-slice, walkOf
 use denote.Exit.{yes}
 use denote.Triple.Clauses.{ensured, lasts}
 use Rattle.field.specs.Bits.{fieldAt}
-use Rattle.field.specs.Fields.{Inside}
+use Rattle.field.specs.Fields.{FieldInside}
 use Rattle.reader.specs.Fields.{threeAt}
 use Rattle.reader.specs.declared.Triple.{Triple}
 use Rattle.reader.proofs.Triple as S
@@ -76,7 +76,7 @@ made a b c = record { first = a; second = b; third = c }
 
 module _ {M : Type 1} (𝓤 : URA M) (H : Heap 𝓤) (A : Atoms 𝓤) (W : Given 𝓤 H A) (mem : Memory → SProp 𝓤) (run : Routine → Fun 𝓤)
     (κ : Lft) (q : Share) (s : RefT (List ℕ)) (n a b c : ℕ) (n-fits : n < 2 ^ 64) (a-fits : a < 2 ^ 64) (b-fits : b < 2 ^ 64) (c-fits : c < 2 ^ 64)
-    (ok : Inside (now s) n a × Inside (now s) (n + a) b × Inside (now s) (n + a + b) c) where
+    (ok : FieldInside (now s) n a × FieldInside (now s) (n + a) b × FieldInside (now s) (n + a + b) c) where
   abbrev vals : Vals three.signature (κ, tt)
   vals = (sliceOf s ∷ [], (vint w64 n ∷ [], (vint w64 a ∷ [], (vint w64 b ∷ [], (vint w64 c ∷ [], tt)))))
 

@@ -1,11 +1,11 @@
 -- `reading::head_of` meets its contract. Assumes nothing.
 use mathlib.Core.Path.{_≡_, refl}
 use Prim.Native.Nat.{ℕ, zero, suc}
-use Rattle.reading.specs.Reading.{head}
+use Rattle.reading.specs.Reading.{headOf}
 use Rattle.reading.proofs.head_of.Statement.{statement}
 use Rattle.reading.proofs.head_of.Tie as tie
 
-refused : (k n : ℕ) → (k ≡ 0 → ⊥) → record { number = k; count = 0 } ≡ head k n
+refused : (k n : ℕ) → (k ≡ 0 → ⊥) → record { number = k; count = 0 } ≡ headOf k n
 refused zero n h = absurd (h refl)
 refused (suc k) n h = refl
 

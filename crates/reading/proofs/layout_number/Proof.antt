@@ -8,13 +8,13 @@ use Prim.Native.Nat.{ℕ, _+_}
 use lib.ListN.{length}
 use denote.Ref.{now}
 use Rattle.plan.specs.Tests.{firstBroken}
-use Rattle.reading.specs.Reading.{layoutTests, Told}
+use Rattle.reading.specs.Reading.{layoutTests, BlocksFound}
 use Rattle.reading.proofs.SheetLayout.{layoutBy, layout-is}
 use Rattle.reading.proofs.layout_number.Statement.{statement}
 use Rattle.reading.proofs.layout_number.Tie as tie
 
 -- A number by what the tests are told is the number of the sheet's tests.
-by-told : {s : List ℕ} {n : ℕ} {cut nonzero : Bool} {end : ℕ} (k : ℕ) → Told s n cut nonzero end → k ≡ firstBroken (layoutBy s n cut nonzero end)
+by-told : {s : List ℕ} {n : ℕ} {cut nonzero : Bool} {end : ℕ} (k : ℕ) → BlocksFound s n cut nonzero end → k ≡ firstBroken (layoutBy s n cut nonzero end)
     → k ≡ firstBroken (layoutTests s)
 by-told {s} {n} k t e = e ∙ layout-is s n (t .count) (t .cut-is) (t .nonzero-is) (t .end-is)
 

@@ -52,7 +52,7 @@ module _ (c : tie.After-entry-of Inv-loop μ-loop) where
       → Running p (start .args .allowance) (start .args .store .now) (e ∷ left) (turn .loop .store) (turn .loop .stack)
   running-at {e} q =
       let h : i < entryCount (p .count) = omega (arith, turn .before .before .before .entry-count .ensures) in
-      let d : drop i (entriesOf p) ≡ e ∷ left = entries-from p i h ∙ ap (λ (x : Entry). x ∷ left) (sym (c .entry-of .ensures) ∙ q) in
+      let d : drop i (entriesOf p) ≡ e ∷ left = entries-from p i h ∙ ap (λ (x : Entry). x ∷ left) (sym (c .entry-of .ensures .0) ∙ q) in
       rw d at (turn .loop .inv .1)
 
 -- What a join does, and what the run then comes to.
@@ -100,7 +100,7 @@ returns c =
     let after = a .apply .last .1 .1 .0 in
     let w = joined e (k .entry2 .given .1) (a .apply .result) after (a .apply .ensures .0) (a .apply .ensures .1) .1 (c .before .before .before .before .if1 .taken) in
     let l = later e (k .entry2 .given .1) (a .apply .result) after (a .apply .ensures .0) (a .apply .ensures .1) in
-    let size = turn e .before .before .needed .ensures in
+    let size = turn e .before .before .store-for .ensures in
     (rw w, rw w (clears size after (start e .args .store .now) (c .before .before .clear .last .0) l (c .before .before .clear .ensures)))
 
 loop-again : tie.Need-loop-again Inv-loop μ-loop
@@ -139,7 +139,7 @@ returns-2 c =
     let st = b .before .loop .stack in
     let w = finished (begin b .pre) (ended b) .1 in
     let n : length (listAt store st 0) ≡ getD (st .counts) 0 0 = length-records (getD (st .counts) 0 0) (drop (getD (st .starts) 0 0) store) in
-    let size = b .before .before .before .needed .ensures in
+    let size = b .before .before .before .store-for .ensures in
     (rw (w, n), rw w (fills size store (begin b .args .store .now) (c .before .before .settle .last .0) (ended b .stored .later) (listAt store st 0) (c .before .before .settle .ensures)))
 
 pub run-plan-spec : {M : Type 1} → statement M
