@@ -8,7 +8,6 @@ use native.Mathlib.Omega.{arith}
 use lib.Dec.{ltb, eqb}
 use lib.ListN.{length, length-append}
 use borrow.Author.Tests.{ne-eqb, ltb-false}
-use Rattle.theory.specs.Sums.{Every}
 use Rattle.theory.specs.Masses.{total}
 use Rattle.theory.specs.Focal.{Focal, weights}
 use Rattle.theory.specs.declared.Component.{Component}
@@ -24,7 +23,7 @@ use Rattle.theory.proofs.Collect.{belief-collect, plausibility-collect}
 use Rattle.theory.proofs.Method.{image, evaluate-lists, evaluate-refused, Leaves, method}
 use Rattle.theory.proofs.Totals.{fits-drive}
 use Rattle.records.specs.declared.Shares.{Shares}
-use Rattle.records.specs.Records.{records, Under, speedLimit}
+use Rattle.records.specs.Records.{records, Storable}
 use Rattle.records.specs.Shares.{sharesOf}
 use Rattle.records.proofs.Records.{length-encode}
 use Rattle.records.specs.Store.{settled}
@@ -98,7 +97,7 @@ module _ {p : Plan} (valid : Valid p) where
           rw one (leaves-one left-over)
 
   -- The numbers of the drive's list fit records.
-  pub drive-fits : Every (Under speedLimit) (driveList es cs) × (weights (driveList es cs) < 2 ^ 64)
+  pub drive-fits : Storable (driveList es cs)
   drive-fits =
       fits-record (fits-drive (valid .inRange) (valid .balanced) (every-map (λ c q. q .1) (valid .totals)) (valid .positive) es entries-are each-once (valid .findTwo))
       (omega (arith, components-count p, valid .most))

@@ -13,6 +13,7 @@ use Rattle.theory.specs.Focal.{Focal, weights}
 use Rattle.theory.specs.Order.{InOrder, inserted}
 use Rattle.theory.specs.Limits.{mostIntervals}
 use Rattle.theory.proofs.Sums.{sum-append}
+use Rattle.theory.proofs.Every.{every-split}
 use Rattle.theory.proofs.Collect.{weights-insert, order-insert}
 use Rattle.theory.proofs.Lists.{length-insert, insertAll}
 use Rattle.records.specs.declared.Insertion.{Insertion}
@@ -95,6 +96,7 @@ fill-off l (p ∷ ps) ys r h =
 pub record Filling (out₀ out : List ℕ) (m : ℕ) (rest : List Focal) (g : Filled) : Type 0 where
   pub acc : List Focal
   pub held : Held out₀ out m acc
+  pub under : Every (Under speedLimit) rest
   pub fits : weights acc + weights rest < 2 ^ 64
   pub goal : fill acc rest ≡ g
 
@@ -111,15 +113,19 @@ module _ {out₀ out : List ℕ} {m : ℕ} {p : Focal} {rest : List Focal} {g : 
   pub fits-now : weights (f .acc) + p .weight < 2 ^ 64
   fits-now = omega (arith, f .fits)
 
-  module _ (u : Under speedLimit p) {x : Focal} (q : x ≡ p) {e : List ℕ} {r : Insertion}
+  pub under-now : Under speedLimit p
+  under-now = every-head (f .under)
+
+  module _ {x : Focal} (q : x ≡ p) {e : List ℕ} {r : Insertion}
       (ensures : (r ≡ insertionOf x (records m out)) × (e ≡ holding out (insertOrStay x (records m out)))) where
     count : r .count ≡ length (inserted p (f .acc))
-    count = held-count (f .held) u fits-now q ensures
+    count = held-count (f .held) under-now fits-now q ensures
 
     pub filling-step : r .count ≤ mostIntervals → Filling out₀ e (r .count) rest g
     filling-step h = record {
       acc = inserted p (f .acc);
-      held = held-step (f .held) u fits-now q ensures h;
+      held = held-step (f .held) under-now fits-now q ensures h;
+      under = every-tail (f .under);
       fits = omega (arith, f .fits, weights-insert p (f .acc));
       goal = sym (fill-goes (f .acc) p rest (omega (arith, count))) ∙ f .goal;
     }
@@ -127,14 +133,17 @@ module _ {out₀ out : List ℕ} {m : ℕ} {p : Focal} {rest : List Focal} {g : 
     pub filling-stop : mostIntervals < r .count → Done out₀ e (r .count) g
     filling-stop h =
         let ge : record { list = f .acc; count = length (inserted p (f .acc)) } ≡ g = sym (fill-stops (f .acc) p rest (omega (arith, count))) ∙ f .goal in
-        (count ∙ ap (λ (x : Filled). x .count) ge, held-stop (f .held) u fits-now q ensures h ∙ ap (λ (x : Filled). holding out₀ (x .list)) ge)
+        (count ∙ ap (λ (x : Filled). x .count) ge, held-stop (f .held) under-now fits-now q ensures h ∙ ap (λ (x : Filled). holding out₀ (x .list)) ge)
 
 -- A row of intervals goes in.
 module _ {out₀ out : List ℕ} {m : ℕ} (xs rest : List Focal) {g : Filled} (f : Filling out₀ out m (xs ++ rest) g) where
   pub row-insertable : Insertable out m (weights xs)
   row-insertable = insertable (f .held) (weights xs) (omega (arith, f .fits, sum-append (λ (x : Focal). x .weight) xs rest))
 
-  module _ (u : Every (Under speedLimit) xs) {e : List ℕ} {n : ℕ}
+  pub row-under : Every (Under speedLimit) xs
+  row-under = every-split xs (f .under) .0
+
+  module _ {e : List ℕ} {n : ℕ}
       (ensures : (n ≡ fill (records m out) xs .count) × (e ≡ holding out (fill (records m out) xs .list))) where
     row-count : n ≡ fill (f .acc) xs .count
     row-count = ensures .0 ∙ ap (λ (l : List Focal). fill l xs .count) (view (f .held))
@@ -156,9 +165,10 @@ module _ {out₀ out : List ℕ} {m : ℕ} (xs rest : List Focal) {g : Filled} (
             room = k .room (f .held .room);
             len = f .held .len;
             order = k .order (f .held .order);
-            under = k .under (f .held .under) u;
+            under = k .under (f .held .under) row-under;
             sum = omega (arith, f .fits, k .sum);
           };
+          under = every-split xs (f .under) .1;
           fits = omega (arith, f .fits, k .sum);
           goal = sym (fill-on (f .acc) xs rest c) ∙ f .goal;
         }

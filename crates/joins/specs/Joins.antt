@@ -1,16 +1,15 @@
 -- "Joins": the join of two lists that stand in a store, its list in the free rest. Assumes nothing.
-use Prim.Native.Nat.{ℕ, _+_, _*_, _^_, _≤_, _<_}
+use Prim.Native.Nat.{ℕ, _+_, _*_, _≤_}
 use mathlib.Core.Bool.{cond}
 use mathlib.Core.List.{List, [], map}
 use lib.Dec.{leb, ltb}
 use lib.ListN.{length}
-use Rattle.theory.specs.Sums.{Every}
-use Rattle.theory.specs.Focal.{Focal, weights}
+use Rattle.theory.specs.Focal.{Focal}
 use Rattle.theory.specs.declared.Join.{Join}
 use Rattle.theory.specs.Joins.{joinedFocal, pairs}
 use Rattle.theory.specs.Lists.{joinLists}
 use Rattle.theory.specs.Limits.{mostIntervals, recordBytes, listBytes}
-use Rattle.records.specs.Records.{records, Under}
+use Rattle.records.specs.Records.{records, Storable}
 use Rattle.records.specs.Store.{listIn, holdingFrom}
 use Rattle.joins.specs.declared.Joined.{Joined}
 use Rattle.joins.specs.declared.Joined.the-variants.{Made, Full}
@@ -57,19 +56,14 @@ joinIn op s left na right nb = joinLists op (listIn s left na) (listIn s right n
 abbrev pub joinedStore : Join → List ℕ → ℕ → ℕ → ℕ → ℕ → ℕ → List ℕ
 joinedStore op s left na right nb free = holdingFrom s free (fill [] (pairsIn op s left na right nb) .list)
 
--- Speeds of two lists below this join to speeds that fit a record.
-abbrev pub operandLimit : ℕ
-operandLimit = 32768
-
 -- A list that a join can take: n records from byte `start` of a store on.
 pub record Operand (s : List ℕ) (start n : ℕ) : Type 0 where
   pub count : n ≤ mostIntervals
   pub inside : start + recordBytes * n ≤ length s
-  pub under : Every (Under operandLimit) (listIn s start n)
 
 -- Two lists of a store that can be joined into its rest from byte `free` on.
-pub record Joinable (s : List ℕ) (left na right nb free : ℕ) : Type 0 where
+pub record Joinable (op : Join) (s : List ℕ) (left na right nb free : ℕ) : Type 0 where
   pub first : Operand s left na
   pub second : Operand s right nb
   pub room : free + listBytes ≤ length s
-  pub fits : weights (listIn s left na) * weights (listIn s right nb) < 2 ^ 64
+  pub fits : Storable (pairsIn op s left na right nb)

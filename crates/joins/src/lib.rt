@@ -10,12 +10,12 @@ ghost use Rattle.theory.specs.Focal.{listed, weights};
 ghost use Rattle.theory.specs.Joins.{pairs};
 ghost use Rattle.theory.specs.Order.{collect};
 ghost use Rattle.theory.specs.Limits.{mostHeld, recordBytes, listBytes};
-ghost use Rattle.records.specs.Records.{records, Under, keyed};
+ghost use Rattle.records.specs.Records.{records, Under, speedLimit, Storable, keyed};
 ghost use Rattle.records.specs.Store.{copiedFrom, holding, holdingFrom};
 ghost use Rattle.records.specs.Insertion.{Insertable};
 ghost use Rattle.joins.specs.Held.{Held};
 ghost use Rattle.joins.specs.Filling.{fill};
-ghost use Rattle.joins.specs.Joins.{joinedAs, joinNumber, joinLength, numberOfJoin, lengthOfJoin, filledRow, joinIn, joinedStore, operandLimit, Joinable};
+ghost use Rattle.joins.specs.Joins.{joinedAs, joinNumber, joinLength, numberOfJoin, lengthOfJoin, rowOf, filledRow, joinIn, joinedStore, Joinable};
 use records::SPEED_LIMIT;
 use theory::Component;
 use theory::Join;
@@ -44,9 +44,9 @@ fn product_weight(a: u64, b: u64) -> u64
 
 // Joins one interval with the first nb records of b, and puts the pairs into the list of the first n records of out.
 fn join_row(op: Join, key: u64, weight: u64, b: &[u8], nb: usize, out: &mut [u8], n: usize) -> usize
-    requires { ⌜ Insertable (now out) n (weight * weights (records nb (now b))) ⌝ }
+    requires { ⌜ Insertable (now out) n (weights (rowOf op (keyed key weight) (records nb (now b)))) ⌝ }
     requires { ⌜ recordBytes * nb ≤ length (now b) ⌝ }
-    requires { ⌜ Under operandLimit (keyed key weight) × Every (Under operandLimit) (records nb (now b)) ⌝ }
+    requires { ⌜ Every (Under speedLimit) (rowOf op (keyed key weight) (records nb (now b))) ⌝ }
     ensures { λ r. ⌜ r ≡ filledRow op (keyed key weight) (now (b .entry)) nb (now (out .entry)) n .count ⌝ }
     ensures { λ _. ⌜ now (out .exit) ≡ holding (now (out .entry)) (filledRow op (keyed key weight) (now (b .entry)) nb (now (out .entry)) n .list) ⌝ }
 {
@@ -81,8 +81,7 @@ fn join_row(op: Join, key: u64, weight: u64, b: &[u8], nb: usize, out: &mut [u8]
 // would be needed.
 fn join_lists(op: Join, a: &[u8], na: usize, b: &[u8], nb: usize, out: &mut [u8]) -> usize
     requires { ⌜ (recordBytes * na ≤ length (now a)) × (recordBytes * nb ≤ length (now b)) × (listBytes ≤ length (now out)) ⌝ }
-    requires { ⌜ Every (Under operandLimit) (records na (now a)) × Every (Under operandLimit) (records nb (now b)) ⌝ }
-    requires { ⌜ weights (records na (now a)) * weights (records nb (now b)) < 2 ^ 64 ⌝ }
+    requires { ⌜ Storable (pairs op (records na (now a)) (records nb (now b))) ⌝ }
     ensures { λ r. ⌜ r ≡ fill [] (pairs op (records na (now (a .entry))) (records nb (now (b .entry)))) .count ⌝ }
     ensures { λ _. ⌜ now (out .exit) ≡ holding (now (out .entry)) (fill [] (pairs op (records na (now (a .entry))) (records nb (now (b .entry)))) .list) ⌝ }
 {
@@ -113,7 +112,7 @@ fn join_copied(
     free: usize,
 ) -> Joined
     requires { ⌜ (recordBytes * na ≤ length (now a)) × (recordBytes * nb ≤ length (now b)) ⌝ }
-    requires { ⌜ Joinable (now store) left na right nb free ⌝ }
+    requires { ⌜ Joinable op (now store) left na right nb free ⌝ }
     ensures { λ r. ⌜ r ≡ joinedAs (joinIn op (now (store .entry)) left na right nb) ⌝ }
     ensures { λ r. ⌜ joinNumber r ≡ numberOfJoin (joinIn op (now (store .entry)) left na right nb) ⌝ }
     ensures { λ r. ⌜ joinLength r ≡ lengthOfJoin (joinIn op (now (store .entry)) left na right nb) ⌝ }
@@ -144,7 +143,7 @@ pub fn join_in_store(
     nb: usize,
     free: usize,
 ) -> Joined
-    requires { ⌜ Joinable (now store) left na right nb free ⌝ }
+    requires { ⌜ Joinable op (now store) left na right nb free ⌝ }
     ensures { λ r. ⌜ r ≡ joinedAs (joinIn op (now (store .entry)) left na right nb) ⌝ }
     ensures { λ r. ⌜ joinNumber r ≡ numberOfJoin (joinIn op (now (store .entry)) left na right nb) ⌝ }
     ensures { λ r. ⌜ joinLength r ≡ lengthOfJoin (joinIn op (now (store .entry)) left na right nb) ⌝ }

@@ -1,5 +1,5 @@
 -- Laws of records in bytes: read, written, there and back. Callers speak of records by these. Assumes nothing.
-use mathlib.Core.Path.{_≡_, refl, sym, ap, _∙_, subst}
+use mathlib.Core.Path.{_≡_, refl, sym, ap, _∙_}
 use mathlib.Core.List.{List, [], _∷_, _++_, append-assoc}
 use Prim.Native.Nat.{ℕ, zero, suc, _+_, _*_, _-_, _/_, _%_, _^_, _≤_, _<_}
 use native.Mathlib.Nat.{not-suc-le-zero, le-of-suc-le-suc}
@@ -9,7 +9,6 @@ use lib.ListN.{length, take, drop, getD, length-append, length-drop, take-append
 use lib.Seq.{drop-cons, drop-drop, take-add, length-take-le, take-at, drop-at, take-append-le, take-take}
 use Rattle.theory.specs.Sums.{Every}
 use Rattle.theory.specs.Focal.{Focal, weights, noFocal}
-use Rattle.theory.proofs.Every.{index-of-every}
 use Rattle.numbers.specs.Numbers.{bigEndian, onto, numberAt, Bytes}
 use Rattle.numbers.proofs.Numbers.{bytes-drop, bytes-take, bigEndian-onto, read-back}
 use Rattle.records.specs.Records.{keyOf, keyed, bytesOf, encode, headRecord, recordAt, records, withWeight, Under, speedLimit}
@@ -90,9 +89,6 @@ records-next n i s h =
 
 pub records-end : (n i : ℕ) (s : List ℕ) → n ≤ i → drop i (records n s) ≡ []
 records-end n i s h = drop-of-length-le (records n s) {i = i} (rw length-records h)
-
-pub records-each : {P : Focal → Type 0} (n i : ℕ) (s : List ℕ) → Every P (records n s) → i < n → P (recordAt s i)
-records-each {P} n i s e h = subst P (records-at n i s h) (index-of-every noFocal e i (rw length-records h))
 
 -- ---- a record written
 

@@ -1,9 +1,10 @@
 -- "Pairs, allowance and store": a list record has 12 bytes, low 16 bits, high 16 bits, weight 64 bits, each most significant byte
 -- first. Assumes nothing.
-use Prim.Native.Nat.{ℕ, zero, suc, _+_, _*_, _/_, _%_, _<_}
+use Prim.Native.Nat.{ℕ, zero, suc, _+_, _*_, _/_, _%_, _^_, _<_}
 use mathlib.Core.List.{List, [], _∷_, _++_}
 use lib.ListN.{drop}
-use Rattle.theory.specs.Focal.{Focal, focal}
+use Rattle.theory.specs.Sums.{Every}
+use Rattle.theory.specs.Focal.{Focal, focal, weights}
 use Rattle.theory.specs.Limits.{recordBytes}
 use Rattle.numbers.specs.Numbers.{bigEndian, numberAt}
 
@@ -40,6 +41,10 @@ speedLimit = 65536
 -- Both ends are below n.
 abbrev pub Under : ℕ → Focal → Type 0
 Under n f = (f .low < n) × (f .high < n)
+
+-- Records hold this list as it is: each end below the limit, and all weights together below 2 to the 64th.
+abbrev pub Storable : List Focal → Type 0
+Storable l = Every (Under speedLimit) l × (weights l < 2 ^ 64)
 
 -- The key: low and high as one number, which orders intervals. `keyed` is the interval of a key, with its weight.
 abbrev pub keyOf : Focal → ℕ

@@ -1,5 +1,5 @@
 -- A list that is put behind the lists of a stack: the others stay as they were, and it stands on top. Assumes nothing.
-use Prim.Native.Nat.{ℕ, zero, suc, _+_, _-_, _*_, _^_, _≤_, _<_}
+use Prim.Native.Nat.{ℕ, zero, suc, _+_, _-_, _*_, _≤_, _<_}
 use mathlib.Core.Path.{_≡_, refl, ap, ap₂, _∙_}
 use mathlib.Core.List.{List, _∷_}
 use native.Mathlib.Numerals.{add-one}
@@ -7,10 +7,9 @@ use native.Mathlib.Decide.{ℕ-discrete}
 use native.Mathlib.Omega.{arith}
 use lib.ListN.{length, getD, set, drop, length-set}
 use lib.Seq.{getD-set-same, getD-set-other}
-use Rattle.theory.specs.Sums.{Every}
-use Rattle.theory.specs.Focal.{Focal, weights}
+use Rattle.theory.specs.Focal.{Focal}
 use Rattle.theory.specs.Limits.{mostIntervals, mostComponents, recordBytes, listBytes}
-use Rattle.records.specs.Records.{Under, speedLimit}
+use Rattle.records.specs.Records.{Storable}
 use Rattle.records.specs.Store.{listIn, holdingFrom, zeroed, settled}
 use Rattle.records.proofs.Store.{length-from, listIn-from, listIn-before, drop-from}
 use Rattle.run.specs.declared.Stack.{Stack}
@@ -58,7 +57,7 @@ module _ {size : ℕ} {store₀ store : List ℕ} {st : Stack} (stored : Stored 
       ∙ listIn-before store (st .free) l (getD (st .starts) e 0) (getD (st .counts) e 0) inside (stored .apart e (omega arith) .0))
       (below-same e (omega arith))
 
-  pub on-top : Every (Under speedLimit) l × (weights l < 2 ^ 64) → listsBelow (holdingFrom store (st .free) l) next (d + 1) ≡ l ∷ listsBelow store st d
+  pub on-top : Storable l → listsBelow (holdingFrom store (st .free) l) next (d + 1) ≡ l ∷ listsBelow store st d
   on-top u =
       ap (listsBelow (holdingFrom store (st .free) l) next) (add-one d)
       ∙ ap₂ _∷_ (ap₂ (listIn (holdingFrom store (st .free) l)) start-top count-top ∙ listIn-from store (st .free) l inside (u .0) (u .1)) (below-same d (omega arith))

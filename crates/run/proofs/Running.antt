@@ -23,7 +23,7 @@ use Rattle.theory.specs.declared.Component.{Component}
 use Rattle.theory.specs.declared.Join.{Join}
 use Rattle.theory.proofs.Every.{index-of-every}
 use Rattle.theory.proofs.Structure.{named-length}
-use Rattle.theory.proofs.Totals.{fits-join, fits-leaf, fits-speeds, fits-product, Fits}
+use Rattle.theory.proofs.Totals.{fits-pairs, fits-join, fits-leaf, Fits}
 use Rattle.records.specs.Store.{holdingFrom}
 use Rattle.records.proofs.Records.{length-records}
 use Rattle.records.proofs.Store.{drop-from}
@@ -175,22 +175,22 @@ module _ {p : Plan} {store₀ : List ℕ} (ready : Runnable p store₀) {allowan
     together : topTwo .m + topTwo .n ≤ mostComponents
     together = omega (arith, topTwo .together, running .unnamed, ready .valid .most)
 
-    operand : (k m : ℕ) → 0 < k → k ≤ st .depth → m ≤ mostComponents → Fits m (topList store st k) → Operand store (topStart st k) (topCount st k)
-    operand k m a b h f =
+    operand : (k : ℕ) → 0 < k → k ≤ st .depth → Operand store (topStart st k) (topCount st k)
+    operand k a b =
         let at-k = running .stored .apart (st .depth - k) (omega arith) in
-        record { count = at-k .1; inside = omega (arith, at-k, join-room, ready .enough, running .stored .same-length); under = fits-speeds f h }
+        record { count = at-k .1; inside = omega (arith, at-k, join-room, ready .enough, running .stored .same-length) }
 
-    pub applicable : Applicable allowance store st
+    pub applicable : Applicable op allowance store st
     applicable = record {
       two = two-there;
       place = join-room .0;
       start = in-region running;
       allowed = running .allowed;
       joinable = record {
-        first = operand 2 (topTwo .m) (omega arith) two-there (omega (arith, together)) (topTwo .fits-left);
-        second = operand 1 (topTwo .n) (omega arith) (omega (arith, two-there)) (omega (arith, together)) (topTwo .fits-right);
+        first = operand 2 (omega arith) two-there;
+        second = operand 1 (omega arith) (omega (arith, two-there));
         room = omega (arith, join-room, ready .enough, running .stored .same-length);
-        fits = fits-product (topTwo .fits-left) (topTwo .fits-right) together;
+        fits = fits-record (fits-pairs op (topTwo .fits-left) (topTwo .fits-right)) together;
       };
     }
 

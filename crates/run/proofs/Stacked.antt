@@ -1,20 +1,18 @@
 -- The lists of a stack, each over some components: speeds and weights stay below bounds that go by their number. Assumes nothing.
-use Prim.Native.Nat.{ℕ, _+_, _^_, _≤_, _<_}
+use Prim.Native.Nat.{ℕ, _+_, _≤_}
 use mathlib.Core.Path.{_≡_}
 use mathlib.Core.List.{List, [], _∷_}
 use native.Mathlib.Omega.{arith}
 use lib.ListN.{length}
-use Rattle.theory.specs.Sums.{Every}
 use Rattle.theory.specs.Masses.{masses}
-use Rattle.theory.specs.Focal.{Focal, weights}
+use Rattle.theory.specs.Focal.{Focal}
 use Rattle.theory.specs.Order.{collect}
 use Rattle.theory.specs.Limits.{mostHeld, mostMasses, mostComponents}
 use Rattle.theory.specs.declared.Component.{Component}
-use Rattle.theory.proofs.Every.{every-map}
 use Rattle.theory.proofs.Lists.{length-collect}
 use Rattle.theory.proofs.Masses.{length-masses}
 use Rattle.theory.proofs.Totals.{fits-speeds, fits-weights, Fits}
-use Rattle.records.specs.Records.{Under, speedLimit}
+use Rattle.records.specs.Records.{Storable}
 
 -- The lists of a stack, over k components together.
 pub data Stacked : ℕ → List (List Focal) → Type 0 where
@@ -36,8 +34,8 @@ topmost (more {m = n} g (more {m = m} {n = others} f s a) b) =
     record { m = m; n = n; others = others; fits-left = f; fits-right = g; stacked = s; together = omega arith }
 
 -- A list over up to six components fits records.
-pub fits-record : {m : ℕ} {l : List Focal} → Fits m l → m ≤ mostComponents → Every (Under speedLimit) l × (weights l < 2 ^ 64)
-fits-record f h = (every-map (λ x r. (omega (arith, r .0), omega (arith, r .1))) (fits-speeds f h), fits-weights f h)
+pub fits-record : {m : ℕ} {l : List Focal} → Fits m l → m ≤ mostComponents → Storable l
+fits-record f h = (fits-speeds f h, fits-weights f h)
 
 -- A component's list is no longer than its mass assignment.
 pub length-leaf : (c : Component) → c .count ≤ mostHeld → length (collect (masses c)) ≤ mostMasses

@@ -81,9 +81,9 @@ joinStore op allowance store st =
     cond (ltb allowance (spent st)) store (joinedStore op store (topStart st 2) (topCount st 2) (topStart st 1) (topCount st 1) (st .free))
 
 -- It asks for two lists that can be joined into the free rest, and pairs within the allowance so far.
-pub record Applicable (allowance : ℕ) (store : List ℕ) (st : Stack) : Type 0 where
+pub record Applicable (op : Join) (allowance : ℕ) (store : List ℕ) (st : Stack) : Type 0 where
   pub two : 2 ≤ st .depth
   pub place : st .depth ≤ mostComponents
   pub start : st .free ≤ storeBytes
   pub allowed : st .pairs ≤ allowance
-  pub joinable : Joinable store (topStart st 2) (topCount st 2) (topStart st 1) (topCount st 1) (st .free)
+  pub joinable : Joinable op store (topStart st 2) (topCount st 2) (topStart st 1) (topCount st 1) (st .free)

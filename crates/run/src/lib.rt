@@ -81,7 +81,7 @@ fn push(c: Component, stack: Stack, store: &mut [u8]) -> Stack
 
 // A join's entry: the pairs are tested against the allowance, then the two topmost lists are joined into the free rest of the store.
 fn apply(op: Join, stack: Stack, store: &mut [u8], allowance: u32) -> Step
-    requires { ⌜ Applicable allowance (now store) stack ⌝ }
+    requires { ⌜ Applicable op allowance (now store) stack ⌝ }
     ensures { λ r. ⌜ r ≡ joinStep op allowance (now (store .entry)) stack ⌝ }
     ensures { λ _. ⌜ now (store .exit) ≡ joinStore op allowance (now (store .entry)) stack ⌝ }
 {

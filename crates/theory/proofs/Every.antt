@@ -1,6 +1,6 @@
 -- Laws of a property of each element of a list. Assumes nothing.
 use Prim.Native.Nat.{ℕ, zero, suc, _<_}
-use mathlib.Core.List.{List, _∷_, _++_, map}
+use mathlib.Core.List.{List, [], _∷_, _++_, map}
 use native.Mathlib.Omega.{arith}
 use lib.ListN.{length, getD}
 use Rattle.theory.specs.Sums.{forEach, oneOfEach, Every}
@@ -18,6 +18,10 @@ every-getD P z e (Every.more p r) (suc i) = every-getD P z e r i
 pub every-append : {A : Type 0} {P : A → Type 0} {xs ys : List A} → Every P xs → Every P ys → Every P (xs ++ ys)
 every-append Every.none q = q
 every-append (Every.more p r) q = Every.more p (every-append r q)
+
+pub every-split : {A : Type 0} {P : A → Type 0} (xs : List A) {ys : List A} → Every P (xs ++ ys) → Every P xs × Every P ys
+every-split [] h = (Every.none, h)
+every-split (x ∷ xs) (Every.more p r) = let q = every-split xs r in (Every.more p (q .0), q .1)
 
 pub every-image : {A B : Type 0} {P : B → Type 0} {Q : A → Type 0} (g : A → B) → ((x : A) → Q x → P (g x)) → {xs : List A} → Every Q xs → Every P (map g xs)
 every-image g h Every.none = Every.none

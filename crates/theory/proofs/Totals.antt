@@ -94,7 +94,7 @@ fits-collect {m} {l} p = record {
 }
 
 module _ {m n : ℕ} (op : Join) {l r : List Focal} (p : Fits m l) (q : Fits n r) where
-  fits-pairs : Fits (m + n) (pairs op l r)
+  pub fits-pairs : Fits (m + n) (pairs op l r)
   fits-pairs = record {
     speeds = every-pairs _*_ op (joined-upTo m n op) (p .speeds) (q .speeds);
     sum = rw (weights-pairs op l r, pow-add mostTotal m n) (mul-le-mul (p .sum) (q .sum));
@@ -103,13 +103,9 @@ module _ {m n : ℕ} (op : Join) {l r : List Focal} (p : Fits m l) (q : Fits n r
   pub fits-join : Fits (m + n) (joinLists op l r)
   fits-join = fits-collect fits-pairs
 
--- The weights of a join's list fit 64 bits.
-pub fits-product : {m n : ℕ} {l r : List Focal} → Fits m l → Fits n r → m + n ≤ mostComponents → weights l * weights r < 2 ^ 64
-fits-product {m} {n} {l} {r} p q = thousands (weights l) (weights r) m n (p .sum) (q .sum)
-
 module _ {m : ℕ} {l : List Focal} (p : Fits m l) (h : m ≤ mostComponents) where
-  -- Speeds fit 15 bits, so that the speeds of a join fit 16.
-  pub fits-speeds : Every (λ f. (f .low < 32768) × (f .high < 32768)) l
+  -- Speeds fit 16 bits.
+  pub fits-speeds : Every (λ f. (f .low < 65536) × (f .high < 65536)) l
   fits-speeds = every-map (λ f r. (omega (arith, r .low-high, r .below), omega (arith, r .below))) (p .speeds)
 
   pub fits-weights : weights l < 2 ^ 64

@@ -66,7 +66,7 @@ join-lists-requires c κs =
     let s = begin ca in
     let j = s .pre .1 in (
       (omega (arith, ca .copy .kept, s .pre), omega (arith, cb .copy2 .kept, s .pre), rw (part-rest (s .args .store .now) (s .args .free), length-drop) (omega (arith, j .room))),
-      ((rw (left ca .1) (j .first .under), rw (right cb .1) (j .second .under)), rw (left ca .1, right cb .1) (j .fits)),
+      rw (left ca .1, right cb .1) (j .fits),
     )
 
 -- The answer with its number and its length, and every byte.

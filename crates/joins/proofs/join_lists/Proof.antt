@@ -2,23 +2,20 @@
 -- wanted. Assumes nothing.
 use mathlib.Core.Path.{_≡_, refl, sym, ap, _∙_, subst}
 use mathlib.Core.List.{List, [], _++_}
-use Prim.Native.Nat.{_≤_, _+_, _*_, _-_}
-use native.Mathlib.Nat.{zero-add}
+use Prim.Native.Nat.{_≤_, _+_, _-_}
 use native.Mathlib.Omega.{arith}
 use lib.ListN.{drop}
 use Rattle.theory.specs.Sums.{Every}
 use Rattle.theory.specs.Focal.{Focal, weights}
 use Rattle.theory.specs.Joins.{pairs}
-use Rattle.theory.proofs.Totals.{weights-pairs}
 use Rattle.records.specs.Records.{keyed, recordAt, records, Under, speedLimit}
 use Rattle.records.specs.Store.{holding}
 use Rattle.records.specs.Insertion.{Insertable}
-use Rattle.records.proofs.Records.{from-key, records-next, records-end, records-each}
+use Rattle.records.proofs.Records.{from-key, records-next, records-end, record-under}
 use Rattle.joins.specs.Filling.{Filled, fill}
-use Rattle.joins.specs.Joins.{rowOf, operandLimit}
+use Rattle.joins.specs.Joins.{rowOf}
 use Rattle.joins.proofs.Holding.{held-none, length-now}
-use Rattle.joins.proofs.Filling.{Filling, row-insertable, filling-row, filling-row-stop, filling-done}
-use Rattle.joins.proofs.Pairs.{row-under, row-weights}
+use Rattle.joins.proofs.Filling.{Filling, row-insertable, row-under, filling-row, filling-row-stop, filling-done}
 use Rattle.joins.proofs.join_lists.Statement.{statement}
 use Rattle.joins.proofs.join_lists.Tie as tie
 
@@ -45,8 +42,8 @@ own c = recordAt (start c .args .a .now) (c .before .loop .i)
 abbrev wanted : tie.Start Inv-loop μ-loop → Filled
 wanted c = fill [] (pairs (c .args .op) (left c) (right c))
 
-small : (c : tie.In-loop Inv-loop μ-loop) → Under operandLimit (own c)
-small c = records-each (start c .args .na) (c .before .loop .i) (start c .args .a .now) (start c .pre .1 .0 .0) (c .loop-test .taken)
+small : (c : tie.In-loop Inv-loop μ-loop) → Under speedLimit (own c)
+small c = record-under (start c .args .a .now) (c .before .loop .i) (λ i. c .before .before .before .before .shared-slice-known .given i .fits)
 
 abbrev this : tie.In-loop Inv-loop μ-loop → List Focal
 this c = rowOf (start c .args .op) (own c) (right (start c))
@@ -70,7 +67,8 @@ loop-holds c =
       record {
         acc = [];
         held = held-none (s .args .out .now) (λ i. c .slice-known .given i .fits) (s .pre .0 .2);
-        fits = rw (weights-pairs (s .args .op) (left s) (right s), zero-add) (s .pre .1 .1);
+        under = s .pre .1 .0;
+        fits = omega (arith, s .pre .1 .1);
         goal = refl;
       },
     )
@@ -79,10 +77,10 @@ join-row-requires : tie.Need-join-row-requires Inv-loop μ-loop
 join-row-requires c κs =
     let w = c .before in
     let i = w .before .before in
-    let n : Insertable (i .before .loop .out) (i .before .loop .m) (weights (this i)) = row-insertable (this i) (later i) (turn i) in (
-      subst (λ (r : Focal). Insertable (i .before .loop .out) (i .before .loop .m) (r .weight * weights (right (start i)))) (sym (handed w))
-          (rw (row-weights (start i .args .op) (own i) (right (start i))) at n),
-      (start i .pre .0 .1, (subst (Under operandLimit) (sym (handed w)) (small i), start i .pre .1 .0 .1)),
+    let e : this i ≡ rowOf (start i .args .op) (keyed (w .before .key-at .result) (w .weight-at .result)) (right (start i)) =
+    ap (λ (x : Focal). rowOf (start i .args .op) x (right (start i))) (sym (handed w)) in (
+      subst (λ (l : List Focal). Insertable (i .before .loop .out) (i .before .loop .m) (weights l)) e (row-insertable (this i) (later i) (turn i)),
+      (start i .pre .0 .1, subst (Every (Under speedLimit)) e (row-under (this i) (later i) (turn i))),
     )
 
 -- So the row is the record's.
@@ -102,9 +100,6 @@ row c =
 abbrev turn-of : tie.After-join-row Inv-loop μ-loop → tie.In-loop Inv-loop μ-loop
 turn-of c = c .before .before .before .before
 
-row-small : (c : tie.In-loop Inv-loop μ-loop) → Every (Under speedLimit) (this c)
-row-small c = row-under (start c .args .op) (own c) (small c) (start c .pre .1 .0 .1)
-
 same-length : tie.Need-same-length Inv-loop μ-loop
 same-length c = c .before .before .before .join-row .kept .1 .1 .1 .1 .1 .0 ∙ length-now (turn (turn-of (c .before .before .before)) .held)
 
@@ -112,13 +107,13 @@ returns : tie.Need-returns Inv-loop μ-loop
 returns c =
     let r = c .before .before .before in
     let i = turn-of r in
-    filling-row-stop (this i) (later i) (turn i) (row-small i) (row r) (c .if1 .taken)
+    filling-row-stop (this i) (later i) (turn i) (row r) (c .if1 .taken)
 
 loop-again : tie.Need-loop-again Inv-loop μ-loop
 loop-again c =
     let r = c .before .before .before in
     let i = turn-of r in
-    (omega (arith, i .loop-test .taken), filling-row (this i) (later i) (turn i) (row-small i) (row r) (c .if1 .left))
+    (omega (arith, i .loop-test .taken), filling-row (this i) (later i) (turn i) (row r) (c .if1 .left))
 
 returns-2 : tie.Need-returns-2 Inv-loop μ-loop
 returns-2 c =

@@ -8,12 +8,11 @@ use lib.ListN.{drop}
 use Rattle.theory.specs.Focal.{Focal, weights}
 use Rattle.theory.specs.Joins.{joined, joinedFocal}
 use Rattle.records.specs.Records.{keyOf, keyed, recordAt, records, Under, speedLimit}
-use Rattle.records.proofs.Records.{key-ends, from-key, records-next, records-end, records-each}
+use Rattle.records.proofs.Records.{key-ends, from-key, records-next, records-end, record-under}
 use Rattle.joins.specs.Filling.{Filled}
-use Rattle.joins.specs.Joins.{rowOf, filledRow, operandLimit}
+use Rattle.joins.specs.Joins.{rowOf, filledRow}
 use Rattle.joins.proofs.Holding.{held, length-now, insertable}
-use Rattle.joins.proofs.Filling.{Filling, fits-now, filling-step, filling-stop, filling-done}
-use Rattle.joins.proofs.Pairs.{joined-under, row-weights}
+use Rattle.joins.proofs.Filling.{Filling, fits-now, under-now, filling-step, filling-stop, filling-done}
 use Rattle.joins.proofs.join_row.Statement.{statement}
 use Rattle.joins.proofs.join_row.Tie as tie
 
@@ -43,11 +42,8 @@ pair c = joinedFocal (start c .args .op) (own (start c)) (other c)
 abbrev wanted : tie.Start Inv-loop μ-loop → Filled
 wanted c = filledRow (c .args .op) (own c) (c .args .b .now) (c .args .nb) (c .args .out .now) (c .args .n)
 
-small : (c : tie.In-loop Inv-loop μ-loop) → Under operandLimit (other c)
-small c = records-each (start c .args .nb) (c .before .loop .j) (start c .args .b .now) (start c .pre .1 .1 .1) (c .loop-test .taken)
-
-pair-under : (c : tie.In-loop Inv-loop μ-loop) → Under speedLimit (pair c)
-pair-under c = joined-under (start c .args .op) (own (start c)) (other c) (start c .pre .1 .1 .0) (small c)
+small : (c : tie.In-loop Inv-loop μ-loop) → Under speedLimit (other c)
+small c = record-under (start c .args .b .now) (c .before .loop .j) (λ i. c .before .before .before .shared-slice-known .given i .fits)
 
 turn : (c : tie.In-loop Inv-loop μ-loop)
     → Filling (start c .args .out .now) (c .before .loop .out) (c .before .loop .m)
@@ -77,7 +73,7 @@ made-is c =
     }
 
 made-under : (c : tie.After-product-weight Inv-loop μ-loop) → Under speedLimit (made c)
-made-under c = subst (Under speedLimit) (sym (made-is c)) (pair-under (turn-of c))
+made-under c = subst (Under speedLimit) (sym (made-is c)) (under-now (turn (turn-of c)))
 
 given : (c : tie.After-product-weight Inv-loop μ-loop) → keyed (keyOf (made c)) (made c .weight) ≡ pair (turn-of c)
 given c = from-key (made c) (made-under c .1) ∙ made-is c
@@ -89,7 +85,8 @@ loop-holds c =
       record {
         acc = records (s .args .n) (s .args .out .now);
         held = held (s .args .out .now) (s .args .n) _ (λ i. c .slice-known .given i .fits) (s .pre .0);
-        fits = rw (row-weights (s .args .op) (own s) (others s)) (s .pre .0 .fits);
+        under = s .pre .1 .1;
+        fits = s .pre .0 .fits;
         goal = refl;
       },
     )
@@ -116,13 +113,13 @@ returns : tie.Need-returns Inv-loop μ-loop
 returns c =
     let n = c .before .before .before in
     let i = turn-of (n .before .before) in
-    filling-stop (turn i) (pair-under i) (given (n .before .before)) (n .insert .ensures) (c .if1 .taken)
+    filling-stop (turn i) (given (n .before .before)) (n .insert .ensures) (c .if1 .taken)
 
 loop-again : tie.Need-loop-again Inv-loop μ-loop
 loop-again c =
     let n = c .before .before .before in
     let i = turn-of (n .before .before) in
-    (omega (arith, i .loop-test .taken), filling-step (turn i) (pair-under i) (given (n .before .before)) (n .insert .ensures) (c .if1 .left))
+    (omega (arith, i .loop-test .taken), filling-step (turn i) (given (n .before .before)) (n .insert .ensures) (c .if1 .left))
 
 returns-2 : tie.Need-returns-2 Inv-loop μ-loop
 returns-2 c =
