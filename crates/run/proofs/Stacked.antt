@@ -9,9 +9,10 @@ use Rattle.theory.specs.Focal.{Focal}
 use Rattle.theory.specs.Order.{collect}
 use Rattle.theory.specs.Limits.{mostHeld, mostMasses, mostComponents}
 use Rattle.theory.specs.declared.Component.{Component}
+use Rattle.theory.proofs.Every.{every-map}
 use Rattle.theory.proofs.Lists.{length-collect}
 use Rattle.theory.proofs.Masses.{length-masses}
-use Rattle.theory.proofs.Totals.{fits-speeds, fits-weights, Fits}
+use Rattle.theory.proofs.Totals.{fits-weights, Fits}
 use Rattle.records.specs.Records.{Storable}
 
 -- The lists of a stack, over k components together.
@@ -35,7 +36,7 @@ topmost (more {m = n} g (more {m = m} {n = others} f s a) b) =
 
 -- A list over up to six components fits records.
 pub fits-record : {m : ℕ} {l : List Focal} → Fits m l → m ≤ mostComponents → Storable l
-fits-record f h = (fits-speeds f h, fits-weights f h)
+fits-record f h = (every-map (λ x r. (omega (arith, r .low-high, r .below), omega (arith, r .below))) (f .speeds), fits-weights f h)
 
 -- A component's list is no longer than its mass assignment.
 pub length-leaf : (c : Component) → c .count ≤ mostHeld → length (collect (masses c)) ≤ mostMasses

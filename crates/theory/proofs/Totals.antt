@@ -24,7 +24,7 @@ use Rattle.theory.proofs.Steps.{weigh-pairs, every-pairs}
 use Rattle.theory.proofs.Collect.{weights-collect, weights-weigh, every-collect}
 use Rattle.theory.proofs.Counts.{once-length}
 use Rattle.theory.proofs.Monotone.{joined-mono, joined-le}
-use Rattle.theory.proofs.Every.{every-map, every-getD}
+use Rattle.theory.proofs.Every.{every-getD}
 use Rattle.theory.proofs.Structure.{one-tree}
 use Rattle.theory.proofs.Bridge.{drive-is-tree}
 
@@ -104,10 +104,6 @@ module _ {m n : ℕ} (op : Join) {l r : List Focal} (p : Fits m l) (q : Fits n r
   fits-join = fits-collect fits-pairs
 
 module _ {m : ℕ} {l : List Focal} (p : Fits m l) (h : m ≤ mostComponents) where
-  -- Speeds fit 16 bits.
-  pub fits-speeds : Every (λ f. (f .low < 65536) × (f .high < 65536)) l
-  fits-speeds = every-map (λ f r. (omega (arith, r .low-high, r .below), omega (arith, r .below))) (p .speeds)
-
   pub fits-weights : weights l < 2 ^ 64
   fits-weights = omega (arith, thousands (weights l) 1 m 0 (p .sum) (le-of-eq (sym (pow-zero mostTotal))) (omega arith))
 
