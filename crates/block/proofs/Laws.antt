@@ -19,7 +19,7 @@ use Rattle.block.specs.Block.{countBits, zeroBits, placeOf, sizeOf, padd
 use Rattle.block.specs.declared.Block.{Block}
 use Rattle.block.proofs.Rows.{row-ext, row-used}
 
--- three fields of at most 16 bits fit 16 bits
+-- Three fields of at most 16 bits fit 16 bits.
 pub narrow : (s : List ℕ) (p a b c : ℕ) (t : Triple) → a ≤ 16 → b ≤ 16 → c ≤ 16 → t ≡ threeAt s p a b c
     → (t .first < 2 ^ 16) × (t .second < 2 ^ 16) × (t .third < 2 ^ 16)
 narrow s p a b c t i j k e =
@@ -30,7 +30,7 @@ pub neither : (a b : Bool) → (a || b) ≡ false → (a ≡ false) × (b ≡ fa
 neither true b e = absurd (true≢false e)
 neither false b e = (refl, e)
 
--- a block that is not cut short: k is 1 to 8, and its bytes are there
+-- A block that is not cut short: k is 1 to 8, and its bytes are there.
 pub record Uncut (s : List ℕ) : Type 0 where
   pub least : 1 ≤ countIn s
   pub most : countIn s ≤ mostHeld
@@ -54,7 +54,7 @@ is-cut s h = go (cutShort s) refl
     go true e = e
     go false e = absurd (h (uncut s e))
 
--- where no bit named zero is one, the two bits behind k and the padding are zero
+-- Where no bit named zero is one, the two bits behind k and the padding are zero.
 pub zero-bits : (s : List ℕ) → badZeroBits s ≡ false → (fieldAt s countBits zeroBits ≡ 0) × (fieldAt s (placeOf (countIn s)) (paddingOf (countIn s)) ≡ 0)
 unfolding badZeroBits
 zero-bits s e =
@@ -65,7 +65,7 @@ pub no-bad-bits : (s : List ℕ) → fieldAt s countBits zeroBits ≡ 0 → fiel
 unfolding badZeroBits
 no-bad-bits s a b = simp (a, b)
 
--- the two cases of a block that is read
+-- The two cases of a block that is read.
 pub block-uncut : (s : List ℕ) → cutShort s ≡ false
     → blockIn s ≡ record { cut = false; nonzero = badZeroBits s; size = sizeOf (countIn s); component = componentIn s }
 unfolding blockIn
@@ -75,7 +75,7 @@ pub block-cut : (s : List ℕ) → cutShort s ≡ true → blockIn s ≡ noBlock
 unfolding blockIn
 block-cut s e = rw e
 
--- what is said of the cut is so, and a block that is read lies within what is there
+-- What is said of the cut is so, and a block that is read lies within what is there.
 pub block-says : (s : List ℕ) → (blockIn s) .cut ≡ cutShort s
 block-says s = go (cutShort s) refl
   where
@@ -90,7 +90,7 @@ size-fits s = go (cutShort s) refl
     go true e = rw (block-cut s e) (omega arith)
     go false e = rw (block-uncut s e) (uncut s e .there)
 
--- a component that is filled: it depends on the used places alone, and each holds its interval
+-- A component that is filled: it depends on the used places alone, and each holds its interval.
 pub filled-ext : (f g : ℕ → Focal) (k n t : ℕ) → ((i : ℕ) → i < k → f i ≡ g i) → filledWith f k n t ≡ filledWith g k n t
 filled-ext f g k n t h =
     rw (

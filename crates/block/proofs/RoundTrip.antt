@@ -23,12 +23,12 @@ unfolding intervalsOf widthOf
 width-intervals c zero = refl
 width-intervals c (suc n) = rw (width-append (intervalsOf c n) (intervalOf c n), width-intervals c n) (omega arith)
 
--- a block fills its bytes
+-- A block fills its bytes.
 pub width-fieldsOf : (c : Component) → widthOf (fieldsOf c) ≡ 8 * sizeOf (c .count)
 unfolding fieldsOf widthOf
 width-fieldsOf c = rw (width-append (intervalsOf c (c .count)), width-intervals c (c .count)) (omega arith)
 
--- each interval stands at its place
+-- Each interval stands at its place.
 module _ (s : List ℕ) (c : Component) where
   at-place : (n i : ℕ) → Holds s (placeOf 0) (intervalsOf c n) → i < n → Holds s (placeOf i) (intervalOf c i)
   unfolding intervalsOf
@@ -40,7 +40,7 @@ module _ (s : List ℕ) (c : Component) where
     | no k ↦ at-place n i (holds-left s (placeOf 0) (intervalsOf c n) (intervalOf c n) h) (omega arith)
   ]
 
-  -- and all stand there if each does
+  -- And all stand there if each does.
   all-places : (n : ℕ) → ((i : ℕ) → i < n → Holds s (placeOf i) (intervalOf c i)) → Holds s (placeOf 0) (intervalsOf c n)
   unfolding intervalsOf Holds
   all-places zero h = tt
@@ -48,7 +48,7 @@ module _ (s : List ℕ) (c : Component) where
       let w : placeOf 0 + widthOf (intervalsOf c n) ≡ placeOf n = rw (width-intervals c n) in
       holds-append s (placeOf 0) (intervalsOf c n) (intervalOf c n) (all-places n (λ i p. h i (omega arith))) (rw w (h n (omega arith)))
 
--- the fields of a block that is held, read
+-- The fields of a block that is held, read.
 module _ (s : List ℕ) (c : Component) (h : Holds s 0 (fieldsOf c)) where
   held : Holds s (placeOf 0) (intervalsOf c (c .count))
   unfolding fieldsOf Holds
@@ -67,7 +67,7 @@ module _ (s : List ℕ) (c : Component) (h : Holds s 0 (fieldsOf c)) where
       let at = at-place s c (c .count) i held p in
       rw (at .0, at .1 .0, at .1 .1 .0))
 
-  -- what is written is read back, in the used places
+  -- What is written is read back, in the used places.
   pub read-written : 1 ≤ c .count → c .count ≤ mostHeld → sizeOf (c .count) ≤ length s
       → (countIn s ≡ c .count) × (cutShort s ≡ false) × (badZeroBits s ≡ false) × (componentIn s ≡ cleaned c)
   unfolding fieldsOf Holds
@@ -76,7 +76,7 @@ module _ (s : List ℕ) (c : Component) (h : Holds s 0 (fieldsOf c)) where
       let t : totalIn s ≡ c .total = h .1 .1 .0 in
       (k, is-uncut s (record { least = omega arith; most = omega arith; there = rw k l }), no-bad-bits s (h .1 .0) (rw k padding), rw (k, t) component)
 
--- what is read is what would be written
+-- What is read is what would be written.
 pub written-read : (s : List ℕ) → cutShort s ≡ false → badZeroBits s ≡ false → Holds s 0 (fieldsOf (componentIn s))
 unfolding fieldsOf Holds componentOf
 written-read s e z =
@@ -88,7 +88,7 @@ written-read s e z =
     (ap (λ (x : Focal). x .low) f, (ap (λ (x : Focal). x .high) f, (ap (λ (x : Focal). x .weight) f, tt))) in
     (refl, (zero-bits s z .0, (refl, holds-append s (placeOf 0) (intervalsOf c k) _ (all-places s c k each) (rw w (zero-bits s z .1, tt)))))
 
--- an interval whose numbers fit their fields, and a block's fields where each of its intervals is one
+-- An interval whose numbers fit their fields, and a block's fields where each of its intervals is one.
 abbrev pub FitsFields : Focal → Type 0
 FitsFields f = (f .low < 2 ^ speedBits) × (f .high < 2 ^ speedBits) × (f .weight < 2 ^ weightBits)
 

@@ -18,7 +18,7 @@ module _ {A : Type 0} (d : A) (m : ℕ) where
   row-ext f g zero h = refl
   row-ext f g (suc k) h = rw (row-ext f g k (λ i p. h i (omega arith)), h k (omega arith))
 
-  -- a used place
+  -- A used place.
   pub row-used : (e : A) (f : ℕ → A) (k i : ℕ) → i < k → k ≤ m → getD (row d m f k) i e ≡ f i
   unfolding row
   row-used e f zero i h l = absurd (omega arith)

@@ -22,29 +22,29 @@ zeroBits = 2
 abbrev pub totalBits : ℕ
 totalBits = 10
 
--- then k times: low 12, high 12, weight 10 bits.
+-- Then k times: low 12, high 12, weight 10 bits.
 abbrev pub speedBits : ℕ
 speedBits = 12
 
 abbrev pub weightBits : ℕ
 weightBits = 10
 
--- the bits before the intervals, and those of each interval
+-- The bits before the intervals, and those of each interval.
 abbrev pub headBits : ℕ
 headBits = countBits + zeroBits + totalBits
 
 abbrev pub intervalBits : ℕ
 intervalBits = speedBits + speedBits + weightBits
 
--- the bit at which interval i of a block starts; behind the last one the padding starts
+-- The bit at which interval i of a block starts; behind the last one the padding starts.
 abbrev pub placeOf : ℕ → ℕ
 placeOf i = headBits + intervalBits * i
 
--- the bytes of a block of k intervals
+-- The bytes of a block of k intervals.
 abbrev pub sizeOf : ℕ → ℕ
 sizeOf k = (placeOf k + 7) / 8
 
--- its zero bits up to the byte
+-- Its zero bits up to the byte.
 abbrev pub paddingOf : ℕ → ℕ
 paddingOf k = 8 * sizeOf k - placeOf k
 
@@ -63,11 +63,11 @@ intervalIn s i =
       weight = fieldAt s (placeOf i + speedBits + speedBits) weightBits;
     }
 
--- number 4 of a block: its k is not 1 to 8, or it is cut short
+-- Number 4 of a block: its k is not 1 to 8, or it is cut short.
 unfoldable pub cutShort : List ℕ → Bool
 cutShort s = ltb (countIn s) 1 || ltb mostHeld (countIn s) || ltb (length s) (sizeOf (countIn s))
 
--- number 5 of a block: a bit named zero is one
+-- Number 5 of a block: a bit named zero is one.
 unfoldable pub badZeroBits : List ℕ → Bool
 badZeroBits s = ltb 0 (fieldAt s countBits zeroBits) || ltb 0 (fieldAt s (placeOf (countIn s)) (paddingOf (countIn s)))
 
@@ -82,26 +82,26 @@ filledWith f k n t =
       total = t;
     }
 
--- the component of k intervals and the total t that is read at the front of s
+-- The component of k intervals and the total t that is read at the front of s.
 unfoldable pub componentOf : List ℕ → ℕ → ℕ → Component
 componentOf s k t = filledWith (intervalIn s) k k t
 
 abbrev pub componentIn : List ℕ → Component
 componentIn s = componentOf s (countIn s) (totalIn s)
 
--- the component with its unused places zero
+-- The component with its unused places zero.
 unfoldable pub cleaned : Component → Component
 cleaned c = filledWith (focalAt c) (c .count) (c .count) (c .total)
 
--- the component of zeros
+-- The component of zeros.
 abbrev pub zeroComponent : Component
 zeroComponent = record { lows = replicate mostHeld 0; highs = replicate mostHeld 0; weights = replicate mostHeld 0; count = 0; total = 0 }
 
--- what is read where a block is cut short
+-- What is read where a block is cut short.
 abbrev pub noBlock : Block
 noBlock = record { cut = true; nonzero = false; size = 0; component = zeroComponent }
 
--- what is read at the front of s
+-- What is read at the front of s.
 unfoldable pub blockIn : List ℕ → Block
 blockIn s = cond (cutShort s) noBlock (record { cut = false; nonzero = badZeroBits s; size = sizeOf (countIn s); component = componentIn s })
 

@@ -1,2 +1,3 @@
+-- A component's block.
 pub mod Rows
 pub mod Block

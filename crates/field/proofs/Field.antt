@@ -16,13 +16,13 @@ pub bit-lt : (s : List ℕ) (j : ℕ) → bit s j < 2
 unfolding bit
 bit-lt s j = mod-lt _ (lit< tt)
 
--- a field is below two to its width
+-- A field is below two to its width.
 pub field-lt : (s : List ℕ) (a w : ℕ) → fieldAt s a w < 2 ^ w
 unfolding fieldAt
 field-lt s a zero = lit< tt
 field-lt s a (suc w) = rw pow-suc (omega (arith, field-lt s a w, bit-lt s (a + w)))
 
--- a field of u + v bits is the first u bits, then the v after them
+-- A field of u + v bits is the first u bits, then the v after them.
 pub field-split : (s : List ℕ) (a u v : ℕ) → fieldAt s a (u + v) ≡ fieldAt s a u * 2 ^ v + fieldAt s (a + u) v
 unfolding fieldAt
 field-split s a u zero = rw (add-zero u) (omega arith)
@@ -30,13 +30,13 @@ field-split s a u (suc v) =
     rw (add-suc, pow-suc, ← mul-assoc, add-assoc)
     (omega (arith, field-split s a u v))
 
--- the w bits behind h others and before t others
+-- The w bits behind h others and before t others.
 pub field-mid : (s : List ℕ) (a h w t : ℕ) → fieldAt s a (h + w + t) / 2 ^ t % 2 ^ w ≡ fieldAt s (a + h) w
 field-mid s a h w t =
     rw (field-split s a (h + w) t, high (fieldAt s a (h + w)) t (field-lt s (a + (h + w)) t), field-split s a h w)
     (low (fieldAt s a h) w (field-lt s (a + h) w))
 
--- bit i of byte m
+-- Bit i of byte m.
 bit-in : (s : List ℕ) (m i : ℕ) → i < 8 → bit s (8 * m + i) ≡ getD s m 0 / 2 ^ (7 - i) % 2
 unfolding bit
 bit-in s m i h =
@@ -44,7 +44,7 @@ bit-in s m i h =
     let r : (8 * m + i) % 8 ≡ i = omega arith in
     rw (q, r)
 
--- the first i bits of byte m
+-- The first i bits of byte m.
 field-head : (s : List ℕ) (m i : ℕ) → getD s m 0 < 256 → i ≤ 8 → fieldAt s (8 * m) i ≡ getD s m 0 / 2 ^ (8 - i)
 unfolding fieldAt
 field-head s m zero h k = sym (div-eq-of-lt h)
@@ -55,24 +55,24 @@ field-head s m (suc i) h k =
     rw (f, field-head s m i h (omega arith), bit-in s m i (omega arith), e, d)
     (omega arith)
 
--- eight bits from a byte's first one are the byte
+-- Eight bits from a byte's first one are the byte.
 pub field-byte : (s : List ℕ) (m : ℕ) → getD s m 0 < 256 → fieldAt s (8 * m) 8 ≡ getD s m 0
 field-byte s m h = field-head s m 8 h (lit≤ tt) ∙ div-one (getD s m 0)
 
--- one byte more
+-- One byte more.
 pub field-more : (s : List ℕ) (m n : ℕ) → getD s (m + n) 0 < 256 → fieldAt s (8 * m) (8 * (n + 1)) ≡ fieldAt s (8 * m) (8 * n) * 256 + getD s (m + n) 0
 field-more s m n h =
     let e : 8 * (n + 1) ≡ 8 * n + 8 = omega arith in
     let f : 8 * m + 8 * n ≡ 8 * (m + n) = omega arith in
     rw (e, field-split s (8 * m) (8 * n) 8, f, field-byte s (m + n) h)
 
--- the number that n bytes spell is the field of their bits
+-- The number that n bytes spell is the field of their bits.
 pub number-field : (s : List ℕ) (a n : ℕ) → Bytes s → a + n ≤ length s → numberAt s a n ≡ fieldAt s (8 * a) (8 * n)
 unfolding onto fieldAt
 number-field s a zero b h = refl
 number-field s a (suc n) b h = rw (← add-one n) (number-next s a n (omega arith) ∙ rw (number-field s a n b (omega arith)) (sym (field-more s a n (b (a + n)))))
 
--- the field of w bits at bit a, out of the bytes that it stands in
+-- The field of w bits at bit a, out of the bytes that it stands in.
 pub field-out : (s : List ℕ) (a w : ℕ) → fieldAt s (8 * (a / 8)) (8 * ((a + w + 7) / 8 - a / 8)) / 2 ^ ((a + w + 7) / 8 * 8 - (a + w)) % 2 ^ w ≡ fieldAt s a w
 field-out s a w =
     let n : 8 * ((a + w + 7) / 8 - a / 8) ≡ a % 8 + w + ((a + w + 7) / 8 * 8 - (a + w)) = omega arith in

@@ -13,7 +13,7 @@ use Rattle.field.specs.Fields.{Field, widthOf, Fitting, Holds, putAll}
 use Rattle.field.proofs.Field.{bit-lt, field-lt}
 use Rattle.field.proofs.Put.{length-putAt, putAt-other, putAt-same, putAt-bytes, field-ext}
 
--- two rows, one behind the other
+-- Two rows, one behind the other.
 pub width-append : (fs gs : List Field) → widthOf (fs ++ gs) ≡ widthOf fs + widthOf gs
 unfolding widthOf
 width-append [] gs = sym (zero-add (widthOf gs))
@@ -49,7 +49,7 @@ unfolding putAll
 length-putAll s a [] = refl
 length-putAll s a (f ∷ fs) = length-putAll (putAt s a (f .width) (f .value)) (a + f .width) fs ∙ length-putAt s a (f .width) (f .value)
 
--- bits before and behind stay
+-- Bits before and behind stay.
 pub putAll-other : (s : List ℕ) (a : ℕ) (fs : List Field) (j : ℕ) → a + widthOf fs ≤ 8 * length s → (a ≤ j → j < a + widthOf fs → ⊥)
     → bit (putAll s a fs) j ≡ bit s j
 unfolding putAll widthOf
@@ -66,7 +66,7 @@ putAll-bytes s a (f ∷ fs) h B =
     let k : a + f .width + widthOf fs ≤ 8 * length (putAt s a (f .width) (f .value)) = rw length-putAt (omega arith) in
     putAll-bytes (putAt s a (f .width) (f .value)) (a + f .width) fs k (putAt-bytes s a (f .width) (f .value) (omega arith) B)
 
--- what is put in is held
+-- What is put in is held.
 pub putAll-holds : (s : List ℕ) (a : ℕ) (fs : List Field) → Fitting fs → a + widthOf fs ≤ 8 * length s → Holds (putAll s a fs) a fs
 unfolding putAll widthOf Holds Fitting
 putAll-holds s a [] g h = tt
@@ -78,7 +78,7 @@ putAll-holds s a (f ∷ fs) g h =
       putAll-holds (putAt s a (f .width) (f .value)) (a + f .width) fs (g .1) k,
     )
 
--- equal fields have equal bits
+-- Equal fields have equal bits.
 pub field-inj : (s t : List ℕ) (a w : ℕ) → fieldAt s a w ≡ fieldAt t a w → (j : ℕ) → a ≤ j → j < a + w → bit s j ≡ bit t j
 unfolding fieldAt
 field-inj s t a zero e j p q = absurd (omega arith)
@@ -90,7 +90,7 @@ field-inj s t a (suc w) e j p q =
       | no x ↦ field-inj s t a w l j p (omega arith)
     ]
 
--- the same fields, the same bits
+-- The same fields, the same bits.
 pub holds-bits : (s t : List ℕ) (a : ℕ) (fs : List Field) → Holds s a fs → Holds t a fs → (j : ℕ) → a ≤ j → j < a + widthOf fs → bit s j ≡ bit t j
 unfolding Holds widthOf
 holds-bits s t a [] h k j p q = absurd (omega arith)
@@ -99,7 +99,7 @@ holds-bits s t a (f ∷ fs) h k j p q = elim (decLt j (a + f .width)) [
   | no x ↦ holds-bits s t (a + f .width) fs (h .1) (k .1) j (omega arith) (omega arith)
 ]
 
--- bits, fields and rows of fields in the rest of a list from byte m
+-- Bits, fields and rows of fields in the rest of a list from byte m.
 pub bit-drop : (s : List ℕ) (m j : ℕ) → bit (drop m s) j ≡ bit s (8 * m + j)
 unfolding bit
 bit-drop s m j =
@@ -122,13 +122,13 @@ unfolding Holds
 holds-undrop s m a [] h = tt
 holds-undrop s m a (f ∷ fs) h = (sym (field-drop s m a (f .width)) ∙ h .0, rw add-assoc (holds-undrop s m (a + f .width) fs (h .1)))
 
--- what is held fits
+-- What is held fits.
 pub holds-fitting : (s : List ℕ) (a : ℕ) (fs : List Field) → Holds s a fs → Fitting fs
 unfolding Holds Fitting
 holds-fitting s a [] h = tt
 holds-fitting s a (f ∷ fs) h = (rw (← h .0) (field-lt s a (f .width)), holds-fitting s (a + f .width) fs (h .1))
 
--- bytes behind the fields stay
+-- Bytes behind the fields stay.
 setBit-rest : (s : List ℕ) (j b n : ℕ) → j < 8 * n → drop n (setBit s j b) ≡ drop n s
 unfolding setBit
 setBit-rest s j b n h = drop-set-lt n s (j / 8) _ (omega arith)

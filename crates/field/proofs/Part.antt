@@ -45,7 +45,7 @@ putAll-take s m a (f ∷ fs) =
     rw (add-assoc (8 * m) a (f .width))
     (putAll-take (putAt s (8 * m + a) (f .width) (f .value)) m (a + f .width) fs ∙ putAt-take s m a (f .width) (f .value))
 
--- the list when the rest from byte m was lent and fields were put in there
+-- The list when the rest from byte m was lent and fields were put in there.
 pub part-back : (s ys : List ℕ) (m : ℕ) (fs : List Field) → m ≤ length s → ys ≡ putAll (drop m s) 0 fs → putMid m (length s - m) s ys ≡ putAll s (8 * m) fs
 part-back s ys m fs h e =
     rw (post-is m (length s) s h, drop-length, append-nil, e, putAll-drop s m 0 fs, add-zero, ← putAll-take s m 0 fs, add-zero)

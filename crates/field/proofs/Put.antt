@@ -32,13 +32,13 @@ module _ (x k b : ℕ) (hb : b < 2) where
   put-above : withBit x (2 ^ k) b / 2 ^ k / 2 ≡ x / 2 ^ k / 2
   put-above = rw put-high (omega arith)
 
--- a bit below k depends on the number's remainder by 2 ^ k alone
+-- A bit below k depends on the number's remainder by 2 ^ k alone.
 bit-below : (x k i : ℕ) → i < k → x / 2 ^ i % 2 ≡ x % 2 ^ k % 2 ^ (1 + i) / 2 ^ i
 bit-below x k i h =
     let e : k ≡ (k - (1 + i)) + (1 + i) = omega arith in
     sym (field x 1 i) ∙ ap (λ (n : ℕ). n / 2 ^ i) (sym (ap (λ (n : ℕ). x % 2 ^ n % 2 ^ (1 + i)) e ∙ mod-mod-pow x (k - (1 + i)) (1 + i)))
 
--- a bit above k, of what stands above k
+-- A bit above k, of what stands above k.
 bit-above : (x k i : ℕ) → k < i → x / 2 ^ i ≡ x / 2 ^ k / 2 / 2 ^ (i - (k + 1))
 bit-above x k i h =
     let e : i ≡ k + 1 + (i - (k + 1)) = omega arith in
@@ -52,7 +52,7 @@ put-other x k b i hb ne = elim (decLt i k) [
       ∙ ap (λ (n : ℕ). n / 2 ^ (i - (k + 1))) (put-above x k b hb) ∙ sym (bit-above x k i (omega arith)))
 ]
 
--- a byte stays a byte
+-- A byte stays a byte.
 pub put-lt : (x k b : ℕ) → b < 2 → k ≤ 7 → x < 256 → withBit x (2 ^ k) b < 256
 put-lt x k b hb hk hx =
     let e : 2 ^ (7 - k) * 2 ^ (k + 1) ≡ 256 = (let n : (7 - k) + (k + 1) ≡ 8 = omega arith in sym (pow-add 2 (7 - k) (k + 1)) ∙ ap (λ (n : ℕ). 2 ^ n) n) in
@@ -63,19 +63,19 @@ put-lt x k b hb hk hx =
     let y : withBit x (2 ^ k) b / 2 ^ (k + 1) < 2 ^ (7 - k) = rw s h in
     rw e at (div-lt-iff-lt-mul (pow-pos (k + 1)) .0 y)
 
--- the length stays
+-- The length stays.
 pub length-setBit : (s : List ℕ) (j b : ℕ) → length (setBit s j b) ≡ length s
 unfolding setBit
 length-setBit s j b = simp length-set
 
--- the bit that was set
+-- The bit that was set.
 pub setBit-same : (s : List ℕ) (j b : ℕ) → j < 8 * length s → b < 2 → bit (setBit s j b) j ≡ b
 unfolding bit setBit
 setBit-same s j b h hb =
     let i : j / 8 < length s = omega arith in
     rw getD-set-same (put-bit (getD s (j / 8) 0) (7 - j % 8) b hb)
 
--- every other bit stays
+-- Every other bit stays.
 pub setBit-other : (s : List ℕ) (j b i : ℕ) → j < 8 * length s → b < 2 → i ≢ j → bit (setBit s j b) i ≡ bit s i
 unfolding bit setBit
 setBit-other s j b i h hb ne = elim (ℕ-discrete (i / 8) (j / 8)) [
@@ -86,7 +86,7 @@ setBit-other s j b i h hb ne = elim (ℕ-discrete (i / 8) (j / 8)) [
   | no d ↦ rw (getD-set-other s (j / 8) (i / 8))
 ]
 
--- bytes stay bytes
+-- Bytes stay bytes.
 pub setBit-bytes : (s : List ℕ) (j b : ℕ) → j < 8 * length s → b < 2 → Bytes s → Bytes (setBit s j b)
 unfolding setBit
 setBit-bytes s j b h hb B i = elim (ℕ-discrete i (j / 8)) [
@@ -96,7 +96,7 @@ setBit-bytes s j b h hb B i = elim (ℕ-discrete i (j / 8)) [
   | no d ↦ rw (getD-set-other s (j / 8) i) (B i)
 ]
 
--- the length stays
+-- The length stays.
 pub length-putAt : (s : List ℕ) (a w v : ℕ) → length (putAt s a w v) ≡ length s
 unfolding putAt
 length-putAt s a zero v = refl
@@ -105,7 +105,7 @@ length-putAt s a (suc w) v = length-setBit (putAt s a w (v / 2)) (a + w) (v % 2)
 room : (s : List ℕ) (a w v : ℕ) → a + suc w ≤ 8 * length s → a + w < 8 * length (putAt s a w v)
 room s a w v h = rw length-putAt (omega arith)
 
--- every bit outside of the field stays
+-- Every bit outside of the field stays.
 pub putAt-other : (s : List ℕ) (a w v j : ℕ) → a + w ≤ 8 * length s → (a ≤ j → j < a + w → ⊥) → bit (putAt s a w v) j ≡ bit s j
 unfolding putAt
 putAt-other s a zero v j h out = refl
@@ -113,13 +113,13 @@ putAt-other s a (suc w) v j h out =
     setBit-other (putAt s a w (v / 2)) (a + w) (v % 2) j (room s a w (v / 2) h) (omega arith) (λ e. out (omega arith) (omega arith))
     ∙ putAt-other s a w (v / 2) j (omega arith) (λ p q. out p (omega arith))
 
--- equal bits spell equal fields
+-- Equal bits spell equal fields.
 pub field-ext : (s t : List ℕ) (a w : ℕ) → ((j : ℕ) → a ≤ j → j < a + w → bit s j ≡ bit t j) → fieldAt s a w ≡ fieldAt t a w
 unfolding fieldAt
 field-ext s t a zero h = refl
 field-ext s t a (suc w) h = rw (field-ext s t a w (λ j p q. h j p (omega arith)), h (a + w) (omega arith) (omega arith))
 
--- a field that is put is read back
+-- A field that is put is read back.
 pub putAt-same : (s : List ℕ) (a w v : ℕ) → a + w ≤ 8 * length s → v < 2 ^ w → fieldAt (putAt s a w v) a w ≡ v
 unfolding putAt fieldAt
 putAt-same s a zero v h hv = omega arith
@@ -134,14 +134,14 @@ putAt-same s a (suc w) v h hv =
     )
     (omega arith)
 
--- bytes stay bytes
+-- Bytes stay bytes.
 pub putAt-bytes : (s : List ℕ) (a w v : ℕ) → a + w ≤ 8 * length s → Bytes s → Bytes (putAt s a w v)
 unfolding putAt
 putAt-bytes s a zero v h B = B
 putAt-bytes s a (suc w) v h B =
     setBit-bytes (putAt s a w (v / 2)) (a + w) (v % 2) (room s a w (v / 2) h) (omega arith) (putAt-bytes s a w (v / 2) (omega arith) B)
 
--- bytes are known by their bits
+-- Bytes are known by their bits.
 pub bits-ext : (s t : List ℕ) → length s ≡ length t → Bytes s → Bytes t → ((j : ℕ) → j < 8 * length s → bit s j ≡ bit t j) → s ≡ t
 bits-ext s t l B C h =
     ext-getD 0 s t l (λ i p.

@@ -3,24 +3,24 @@ use Prim.Native.Nat.{ℕ, zero, suc, _+_, _-_, _*_, _/_, _%_, _^_}
 use mathlib.Core.List.{List}
 use lib.ListN.{getD, set}
 
--- bit j of the bytes s: bit 0 is the most significant of the first byte
+-- Bit j of the bytes s: bit 0 is the most significant of the first byte.
 unfoldable pub bit : List ℕ → ℕ → ℕ
 bit s j = getD s (j / 8) 0 / 2 ^ (7 - j % 8) % 2
 
--- the number that the w bits from bit a spell, the most significant first
+-- The number that the w bits from bit a spell, the most significant first.
 unfoldable pub fieldAt : List ℕ → ℕ → ℕ → ℕ
 fieldAt s a zero = 0
 fieldAt s a (suc w) = 2 * fieldAt s a w + bit s (a + w)
 
--- the number x with the bit of weight p set to b
+-- The number x with the bit of weight p set to b.
 abbrev pub withBit : ℕ → ℕ → ℕ → ℕ
 withBit x p b = x - x / p % 2 * p + b * p
 
--- the bytes s with bit j set to b
+-- The bytes s with bit j set to b.
 unfoldable pub setBit : List ℕ → ℕ → ℕ → List ℕ
 setBit s j b = set s (j / 8) (withBit (getD s (j / 8) 0) (2 ^ (7 - j % 8)) b)
 
--- the bytes s with the w bits from bit a set to the lowest w bits of v, the most significant first
+-- The bytes s with the w bits from bit a set to the lowest w bits of v, the most significant first.
 unfoldable pub putAt : List ℕ → ℕ → ℕ → ℕ → List ℕ
 putAt s a zero v = s
 putAt s a (suc w) v = setBit (putAt s a w (v / 2)) (a + w) (v % 2)

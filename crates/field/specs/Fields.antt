@@ -5,13 +5,13 @@ use Prim.Native.Nat.{ℕ, _+_, _*_, _^_, _≤_, _<_}
 use lib.ListN.{length}
 use Rattle.field.specs.Bits.{fieldAt, putAt}
 
--- the w bits from bit a lie inside the bytes s, and make a number of 32 bits at most
+-- The w bits from bit a lie inside the bytes s, make a number of 32 bits at most, and end by bit 65,536.
 pub record FieldInside (s : List ℕ) (a w : ℕ) : Type 0 where
   pub narrow : w ≤ 32
   pub within : a + w ≤ 8 * length s
   pub near : a + w ≤ 65536
 
--- a field: a number and its width in bits
+-- A field: a number and its width in bits.
 pub record Field : Type 0 where
   pub width : ℕ
   pub value : ℕ
@@ -19,22 +19,22 @@ pub record Field : Type 0 where
 abbrev pub bits : ℕ → ℕ → Field
 bits w v = record { width = w; value = v }
 
--- how many bits fields take
+-- How many bits fields take.
 unfoldable pub widthOf : List Field → ℕ
 widthOf [] = 0
 widthOf (f ∷ fs) = f .width + widthOf fs
 
--- each number is below two to its width
+-- Each number is below two to its width.
 unfoldable pub Fitting : List Field → Type 0
 Fitting [] = Unit {0}
 Fitting (f ∷ fs) = (f .value < 2 ^ f .width) × Fitting fs
 
--- the fields stand in s, in a row, from bit a
+-- The fields stand in s, in a row, from bit a.
 unfoldable pub Holds : List ℕ → ℕ → List Field → Type 0
 Holds s a [] = Unit {0}
 Holds s a (f ∷ fs) = (fieldAt s a (f .width) ≡ f .value) × Holds s (a + f .width) fs
 
--- the bytes s with the fields put in, in a row, from bit a
+-- The bytes s with the fields put in, in a row, from bit a.
 unfoldable pub putAll : List ℕ → ℕ → List Field → List ℕ
 putAll s a [] = s
 putAll s a (f ∷ fs) = putAll (putAt s a (f .width) (f .value)) (a + f .width) fs

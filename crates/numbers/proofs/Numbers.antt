@@ -19,7 +19,7 @@ part-cons s k m h = rw (add-one, drop-cons s k 0, add-one k)
 pub part-rest : (s : List ℕ) (k : ℕ) → take (length s - k) (drop k s) ≡ drop k s
 part-rest s k = take-all (length s - k) (drop k s) (omega (arith, length-drop k s))
 
--- the store that goes in just before what stands behind a front part
+-- The store that goes in just before what stands behind a front part.
 pub back : (s t : List ℕ) (k b : ℕ) → k < length s → set (take (k + 1) s ++ t) k b ≡ take k s ++ (b ∷ t)
 back s t k b h =
     let hl : k ≤ length s = omega arith in
@@ -27,7 +27,7 @@ back s t k b h =
 
 -- ---- numbers in bytes
 
--- seven bytes hold less than 2 ^ 56, and a number grows by a byte
+-- Seven bytes hold less than 2 ^ 56, and a number grows by a byte.
 pub pow7 : (i : ℕ) → i ≤ 7 → 256 ^ i ≤ 72057594037927936
 pow7 i h = pow-le-pow-right (omega arith) h
 
@@ -39,7 +39,7 @@ unfolding onto
 onto-snoc acc [] b = refl
 onto-snoc acc (x ∷ xs) b = onto-snoc (acc * 256 + x) xs b
 
--- the number in one byte more
+-- The number in one byte more.
 pub number-next : (s : List ℕ) (a n : ℕ) → a + n < length s → numberAt s a (n + 1) ≡ numberAt s a n * 256 + getD s (a + n) 0
 number-next s a n h =
     let l : n < length (drop a s) = rw length-drop (omega arith) in
@@ -52,7 +52,7 @@ bigEndian-next m v = rw add-one
 pub shifted-out : (v m : ℕ) → v / 256 ^ m / 256 ≡ v / 256 ^ (m + 1)
 shifted-out v m = rw (add-one, pow-suc) (div-div-eq-div-mul v (256 ^ m) 256)
 
--- s with the last n - i of the n bytes of v put in from `at` on
+-- s with the last n - i of the n bytes of v put in from `at` on.
 abbrev pub spelt : List ℕ → ℕ → ℕ → ℕ → ℕ → List ℕ
 spelt s at n v i = take (at + i) s ++ (bigEndian (n - i) v ++ drop (at + n) s)
 
@@ -69,7 +69,7 @@ spelt-more s at n v i h k =
 
 -- ---- numbers, there and back
 
--- parts of bytes are bytes
+-- Parts of bytes are bytes.
 pub bytes-drop : (k : ℕ) (s : List ℕ) → Bytes s → Bytes (drop k s)
 bytes-drop k s h i = rw getD-drop (h (k + i))
 

@@ -25,10 +25,11 @@ pub fn read_number(s: &[u8], at: usize, n: usize) -> u64
     requires { ⌜ n ≤ 8 ⌝ }
     ensures { λ r. ⌜ r ≡ numberAt (now (s .entry)) at n ⌝ }
 {
+    let end = at + n;
     let mut acc: u64 = 0;
-    let mut i: usize = 0;
-    while i < n {
-        acc = acc * 256 + wide(s[at + i]);
+    let mut i = at;
+    while i < end {
+        acc = acc * 256 + wide(s[i]);
         i += 1;
     }
     acc

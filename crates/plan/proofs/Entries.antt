@@ -2,13 +2,14 @@
 -- Assumes nothing.
 use borrow.Author.Tests.{ne-eqb, lt-ltb, le-ltb, lt-leb, le-leb, leb-false}
 use mathlib.Core.Path.{_≡_, refl, ap, _∙_}
-use mathlib.Core.Bool.{Bool, false, _||_}
+use mathlib.Core.Bool.{Bool, false, cond, _||_}
 use mathlib.Core.List.{List, [], _∷_, map}
 use Prim.Native.Nat.{ℕ, zero, suc, _+_, _-_, _≤_, _<_}
+use native.Mathlib.Nat.{add-zero}
 use native.Mathlib.Numerals.{add-one}
 use native.Mathlib.Decide.{decLt, ℕ-discrete}
 use native.Mathlib.Omega.{arith}
-use lib.Dec.{leb}
+use lib.Dec.{leb, eqb}
 use lib.ListN.{length, getD, length-map}
 use Rattle.theory.specs.Sums.{countOf, countFrom}
 use Rattle.theory.specs.Limits.{mostComponents, entryCount}
@@ -16,35 +17,37 @@ use Rattle.theory.specs.Lists.{noComponent}
 use Rattle.theory.specs.declared.Entry.{Entry}
 use Rattle.theory.specs.declared.Entry.the-variants.{Component as component, Join as join}
 use Rattle.theory.specs.declared.Join.{Join}
+use Rattle.theory.specs.declared.Join.the-variants.{Series, Shared, Spare}
 use Rattle.theory.specs.Structure.{named, joinsFindTwo}
 use Rattle.theory.proofs.Sums.{length-count, length-below}
 use Rattle.block.proofs.Laws.{neither}
 use Rattle.plan.specs.declared.Plan.{Plan}
 use Rattle.plan.specs.Tests.{anyOf}
-use Rattle.plan.specs.Plan.{componentAt, componentsOf, codesOf, entryOf, structureIn, entriesOf}
+use Rattle.plan.specs.Plan.{componentAt, componentsOf, codesOf, entryOf, structureIn, entriesOf, seriesCode, sharedCode, spareCode}
 use Rattle.plan.specs.Rules.{badEntry, badCode, Rule9InWords}
 use Rattle.plan.specs.Valid.{Known, names, joins}
 use Rattle.plan.proofs.Loops.{from, from-next, from-end}
 use Rattle.plan.proofs.Tests.{any-map}
 
--- A code that is no join's names a component.
-pub code-component : (code : ℕ) → (code ≡ 8 → ⊥) → (code ≡ 9 → ⊥) → (code ≡ 10 → ⊥) → entryOf code ≡ component code
-code-component code a b d = rw (ne-eqb code 8 a, ne-eqb code 9 b, ne-eqb code 10 d)
-
--- Number 9 in document 01's words.
-pub bad-code : Rule9InWords
-bad-code n code = elim (ℕ-discrete code 8) [
-  | yes a ↦ rw a
-  | no a ↦ elim (ℕ-discrete code 9) [
-    | yes b ↦ rw b
-    | no b ↦ elim (ℕ-discrete code 10) [
-      | yes d ↦ rw d
-      | no d ↦ rw (code-component code a b d) (other a b d)
+-- What holds of the joins' codes, and of every other code as a component's number, holds of each code.
+by-code : (P : ℕ → Entry → Type 0) → P seriesCode (join Series) → P sharedCode (join Shared) → P spareCode (join Spare)
+    → (code : ℕ) → ((code ≡ seriesCode → ⊥) → (code ≡ sharedCode → ⊥) → (code ≡ spareCode → ⊥) → P code (component code)) → P code (entryOf code)
+by-code P series shared spare code other = elim (ℕ-discrete code seriesCode) [
+  | yes a ↦ rw a series
+  | no a ↦ elim (ℕ-discrete code sharedCode) [
+    | yes b ↦ rw b shared
+    | no b ↦ elim (ℕ-discrete code spareCode) [
+      | yes d ↦ rw d spare
+      | no d ↦ rw (ne-eqb code seriesCode a, ne-eqb code sharedCode b, ne-eqb code spareCode d) (other a b d)
     ]
   ]
 ]
+
+-- Number 9 in document 01's words.
+pub bad-code : Rule9InWords
+bad-code n code = by-code (λ k e. badEntry n e ≡ badCode n k) refl refl refl code other
   where
-    other : (code ≡ 8 → ⊥) → (code ≡ 9 → ⊥) → (code ≡ 10 → ⊥) → (leb mostComponents code || leb n code) ≡ badCode n code
+    other : (code ≡ seriesCode → ⊥) → (code ≡ sharedCode → ⊥) → (code ≡ spareCode → ⊥) → (leb mostComponents code || leb n code) ≡ badCode n code
     other a b d = elim (decLt code 6) [
       | yes l ↦ rw (lt-leb 6 code l, ne-eqb code 6 (omega arith), ne-eqb code 7 (omega arith), le-ltb 10 code (omega arith), lt-ltb code 6 l)
       | no l ↦ elim (ℕ-discrete code 6) [
@@ -56,6 +59,12 @@ bad-code n code = elim (ℕ-discrete code 8) [
       ]
     ]
 
+-- The code of a component that there can be names it, and no other code does.
+pub names-code : (i code : ℕ) → i < mostComponents → countOf i (named (entryOf code ∷ [])) ≡ cond (eqb i code) 1 0
+names-code i code h =
+    by-code (λ k e. countOf i (named (e ∷ [])) ≡ cond (eqb i k) 1 0) (rw (ne-eqb i seriesCode (omega arith))) (rw (ne-eqb i sharedCode (omega arith)))
+    (rw (ne-eqb i spareCode (omega arith))) code (λ a b d. add-zero _)
+
 -- An entry that keeps number 9 is a component below n or a join.
 pub known-entry : (n : ℕ) (e : Entry) → badEntry n e ≡ false → Known n e
 known-entry n (component i) e = names (leb-false n i (neither (leb mostComponents i) (leb n i) e .1))
@@ -66,16 +75,8 @@ known-component (names h) = h
 
 -- The code of an entry that keeps number 9 fits four bits.
 pub known-fits : (n code : ℕ) → n ≤ mostComponents → Known n (entryOf code) → code < 16
-known-fits n code l k = elim (ℕ-discrete code 8) [
-  | yes a ↦ omega arith
-  | no a ↦ elim (ℕ-discrete code 9) [
-    | yes b ↦ omega arith
-    | no b ↦ elim (ℕ-discrete code 10) [
-      | yes d ↦ omega arith
-      | no d ↦ omega (arith, known-component (rw (code-component code a b d) at k))
-    ]
-  ]
-]
+known-fits n code l =
+    by-code (λ k e. Known n e → k < 16) (λ k. omega arith) (λ k. omega arith) (λ k. omega arith) code (λ a b d k. omega (arith, known-component k))
 
 -- The places of a list that counts.
 getD-count : (k n i : ℕ) → i < n → getD (countFrom k n) i 0 ≡ k + i

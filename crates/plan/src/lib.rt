@@ -245,25 +245,24 @@ fn bad_entries(entries: [u8; theory::MOST_ENTRIES], n: usize) -> bool
     false
 }
 
-// 1 where an entry names component i, or 0.
-fn names(e: Entry, i: usize) -> usize
-    ensures { λ r. ⌜ (r ≡ countOf i (named (e ∷ []))) × (r ≤ 1) ⌝ }
+// 1 where a code names component i, or 0. No join has the code of a component that there can be.
+fn names(code: u8, i: usize) -> usize
+    requires { ⌜ i < mostComponents ⌝ }
+    ensures { λ r. ⌜ (r ≡ countOf i (named (entryOf code ∷ []))) × (r ≤ 1) ⌝ }
 {
-    match e {
-        Entry::Component(k) => if i == k { 1 } else { 0 },
-        Entry::Join(_) => 0,
-    }
+    if i == code as usize { 1 } else { 0 }
 }
 
 // How often component i is named.
 fn times_named(entries: [u8; theory::MOST_ENTRIES], n: usize, i: usize) -> usize
     requires { ⌜ Counted n ⌝ }
+    requires { ⌜ i < mostComponents ⌝ }
     ensures { λ r. ⌜ r ≡ countOf i (named (structureIn entries n)) ⌝ }
 {
     let m = entry_count(n);
     let mut times: usize = 0;
     for j in 0..m {
-        times += names(entry_of(entries[j]), i);
+        times += names(entries[j], i);
     }
     times
 }

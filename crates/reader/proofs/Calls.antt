@@ -51,7 +51,7 @@ use Rattle.reader.proofs.past.Symbol.{name as #reader·past}
 -- ---- locals, by the entry of the context that is their cell
 
 module _ {M : Type 1} {𝓤 : URA M} {H : Heap 𝓤} {A : Atoms 𝓤} {K : Type 0} {W : Given 𝓤 H A} {Γ : List (Item 𝓤)} {E : Env 𝓤 H} where
-  -- a local, copied; two operands
+  -- A local, copied; two operands.
   pub local : K → (n : ℕ) {i : ℕ} {sh : Share} {v : Val} → nth 𝓤 H A n Γ ≡ ‵ (fat sh (spotOf 𝓤 H E i .0) (spotOf 𝓤 H E i .1) zero v)
       → Opd K W Γ E (copy (place i [])) v
   local t n e = load t (from t (stop t)) (look t n e)
@@ -60,7 +60,7 @@ module _ {M : Type 1} {𝓤 : URA M} {H : Heap 𝓤} {A : Atoms 𝓤} {K : Type 
   both t a b = and-then t a (and-then t b (no-more t))
 
   module _ {C : Calls 𝓤 H} {Λ : Loops 𝓤 H} {p : Post 𝓤 H} {rest : Body} {v : Val} where
-    -- what a call answers goes into a local, and what an operand is
+    -- What a call answers goes into a local, and what an operand is.
     pub landed : K → (n : ℕ) {i : ℕ} → nth 𝓤 H A n Γ ≡ ‵ (froom (spotOf 𝓤 H E i .0) (spotOf 𝓤 H E i .1) zero) → Holds (hasTy (spotOf 𝓤 H E i .0) v) × WT v
         → Step K W (put 𝓤 H A n (‵ (fat fullShare (spotOf 𝓤 H E i .0) (spotOf 𝓤 H E i .1) zero v)) Γ) (runs C Λ E rest p) Γ (lands C Λ E (place i []) v rest p)
     landed t n e is = land t (from t (stop t)) (init t n e is)
@@ -71,7 +71,7 @@ module _ {M : Type 1} {𝓤 : URA M} {H : Heap 𝓤} {A : Atoms 𝓤} {K : Type 
         Γ (runs C Λ E (seq (assign (place i []) (rvOpd x)) rest) p)
     assigned t o n e is = assigns t (of-opd t o) (from t (stop t)) (init t n e is)
 
-  -- the next local is let go
+  -- The next local is let go.
   pub gone : K → (n : ℕ) {τ : Ty} {b : ℕ} {v : Val} {g : Goal 𝓤 H} {Γ′ : List (Item 𝓤)}
       → sel 𝓤 H A (n ∷ n ∷ []) Γ ≡ ‵ (fat fullShare τ b zero v) ∷ ‵ (fdies τ b) ∷ Γ′
       → Step K W Γ′ (frees E g) Γ (frees ((τ, b) ∷ E) g)
@@ -79,26 +79,26 @@ module _ {M : Type 1} {𝓤 : URA M} {H : Heap 𝓤} {A : Atoms 𝓤} {K : Type 
       step (λ s. by t (via 𝓤 (⋆ 𝓤 H A (sel 𝓤 H A (n ∷ n ∷ []) Γ)) (sel⊢ 𝓤 H A (n ∷ n ∷ []) Γ)
       (subst (λ (Δ : List (Item 𝓤)). Seq K W Δ (frees ((τ, b) ∷ E) g)) (sym e) (forget t 0 refl $ free1 t $ s) .prf)))
 
--- what a number owns is had for nothing, before what others own
+-- What a number owns is had for nothing, before what others own.
 pub number : {M : Type 1} {𝓤 : URA M} {H : Heap 𝓤} {A : Atoms 𝓤} {K : Type 0} {W : Given 𝓤 H A} {Γ : List (Item 𝓤)} {G : Goal 𝓤 H} {P : Fml}
     → K → (n : ℕ) → n < 2 ^ 64 → Step K W (‵ (fsep (usize .own n (vint w64 n ∷ [])) P) ∷ Γ) G (‵ P ∷ Γ) G
 number {𝓤} {H} {A} {K} {W} t n fits = step (λ s. owned t usize (Is usize) (uint-makes 𝓤 H A W w64) n _ (refl, fits) $ fjoin t $ s)
 
 -- ---- a reader of the slice s
 
--- the struct's type, over the signature's lifetimes
+-- The struct's type, over the signature's lifetimes.
 abbrev pub B : Lfts 1 → RattleType
 B κs = T.the-row (namedLft 1 0 tt κs)
 
 abbrev pub readerAt : RefT (List ℕ) → ℕ → Reader
 readerAt s m = record { src = s; at = m }
 
--- a machine value of the struct's type, as a local of a body has it
+-- A machine value of the struct's type, as a local of a body has it.
 abbrev pub IsReader : Val → Type 0
 IsReader u = Holds (hasTy (T′.mir erased) u) × WT u
 
 module _ {M : Type 1} (𝓤 : URA M) (H : Heap 𝓤) (A : Atoms 𝓤) (mem : Memory → SProp 𝓤) (run : Routine → Fun 𝓤) where
-  -- the contracts
+  -- The contracts.
   abbrev pub From : Contract 𝓤
   From = tripleOf 𝓤 H A from_bit.signature (from_bit.spec 𝓤 H A mem run)
 
@@ -108,7 +108,7 @@ module _ {M : Type 1} (𝓤 : URA M) (H : Heap 𝓤) (A : Atoms 𝓤) (mem : Mem
   abbrev pub Past : Contract 𝓤
   Past = tripleOf 𝓤 H A past.signature (past.spec 𝓤 H A mem run)
 
--- the token of the lifetime, what a slice owns, and what the reader at bit m owns, whose machine value is u
+-- The token of the lifetime, what a slice owns, and what the reader at bit m owns, whose machine value is u.
 abbrev pub Token : {M : Type 1} {𝓤 : URA M} → Lft → Share → Item 𝓤
 Token κ q = ‵ (flft κ q) ⊛ ‵ ftrue
 
@@ -123,7 +123,7 @@ OwnReader κ s m u = B (κ, tt) .own (readerAt s m) (u ∷ [])
 
 module _ {M : Type 1} (𝓤 : URA M) (H : Heap 𝓤) (A : Atoms 𝓤) (W : Given 𝓤 H A) (mem : Memory → SProp 𝓤) (run : Routine → Fun 𝓤)
     (κ : Lft) (q : Share) (s : RefT (List ℕ)) where
-  -- what each is called with
+  -- What each is called with.
   abbrev pub to-from : ℕ → From 𝓤 H A mem run .Ghost
   to-from n = (((κ, tt), (q, tt), tt, (s, (n, tt)), (sliceOf s ∷ [], (vint w64 n ∷ [], tt))), tt)
 
@@ -133,7 +133,7 @@ module _ {M : Type 1} (𝓤 : URA M) (H : Heap 𝓤) (A : Atoms 𝓤) (W : Given
   abbrev pub to-past : ℕ → Val → ℕ → Past 𝓤 H A mem run .Ghost
   to-past m u w = (((κ, tt), (q, tt), tt, (readerAt s m, (w, tt)), (u ∷ [], (vint w64 w ∷ [], tt))), tt)
 
-  -- what each asks, of what the caller has
+  -- What each asks, of what the caller has.
   ask-from : (n : ℕ) → n < 2 ^ 64 → ent 𝓤 (⋆ 𝓤 H A (Token κ q ∷ ‵ (OwnSlice κ s) ∷ [])) (From 𝓤 H A mem run .pre (to-from n))
   ask-from n fits =
       qed W (Token κ q ∷ ‵ (OwnSlice κ s) ∷ []) ∵
@@ -150,7 +150,7 @@ module _ {M : Type 1} (𝓤 : URA M) (H : Heap 𝓤) (A : Atoms 𝓤) (W : Given
       qed W (Token κ q ∷ ‵ (OwnReader κ s m u) ∷ []) ∵ says ! sum $ frame ! $ nothing ! $ number ! w fits $ move ! (1 ∷ 0 ∷ []) $ fjoin ! $ done !
 
   module _ {K : Type 0} {Γ : List (Item 𝓤)} {G : Goal 𝓤 H} where
-    -- what a reader owns is had twice: one stays when the other is passed on
+    -- What a reader owns is had twice: one stays when the other is passed on.
     pub doubled : K → (m : ℕ) (u : Val)
         → Step K W (Token κ q ∷ ‵ (OwnReader κ s m u) ∷ ‵ (OwnReader κ s m u) ∷ Γ) G (‵ (OwnReader κ s m u) ∷ Token κ q ∷ Γ) G
     doubled t m u =
@@ -158,13 +158,13 @@ module _ {M : Type 1} (𝓤 : URA M) (H : Heap 𝓤) (A : Atoms 𝓤) (W : Given
         step (λ x. use1 W (‵ (OwnReader κ s m u) ⊛ ‵ (OwnReader κ s m u)) (LL.copy (T.the-type α) (T′.the-copy α) 𝓤 H A W .twice (readerAt s m) (u ∷ [])) $
         split t $ move t (2 ∷ 0 ∷ []) $ x)
 
-    -- what a call gives back of which the clause is φ: of what it ensures, the clause alone, learned
+    -- What a call gives back of which the clause is φ: of what it ensures, the clause alone, learned.
     pub answered : K → Soaks G → {X : Type 0} (own : X → Fml) (φ : X → Type 0) (E : X → SProp 𝓤) → ((x : X) → ent 𝓤 (E x) (fact 𝓤 (φ x)))
         → ((x : X) → φ x → Seq K W (‵ (own x) ∷ Token κ q ∷ Γ) G) → Seq K W (later (some (λ (x : X). (Token κ q ⊛ ‵ (own x)) ⊛ raw (E x))) ∷ Γ) G
     answered t z own φ E said k =
         await t z $ pick t (λ x. split t $ move t (1 ∷ []) $ use1 W (raw (fact 𝓤 (φ x))) (said x) $ heard t (φ x) (λ e. split t $ move t (1 ∷ []) $ k x e))
 
-    -- a reader that is given back, of which the call says that it is the one at bit m
+    -- A reader that is given back, of which the call says that it is the one at bit m.
     answers-reader : K → Soaks G → (m : ℕ) (u : Val) (E : Reader → SProp 𝓤) → ((r : Reader) → ent 𝓤 (E r) (fact 𝓤 ((r .src ≡ s) × (r .at ≡ m))))
         → (IsReader u → Seq K W (‵ (OwnReader κ s m u) ∷ Token κ q ∷ Γ) G)
         → Seq K W (later (some (λ (r : Reader). (Token κ q ⊛ ‵ (B (κ, tt) .own r (u ∷ []))) ⊛ raw (E r))) ∷ Γ) G
@@ -176,7 +176,7 @@ module _ {M : Type 1} (𝓤 : URA M) (H : Heap 𝓤) (A : Atoms 𝓤) (W : Given
         k (LL.lawful (T.the-type α) (T′.the-laws α) 𝓤 H A W .typed (readerAt s m) _ is .0)))
 
   module _ {K : Type 0} {Γ : List (Item 𝓤)} {E : Env 𝓤 H} {C : Calls 𝓤 H} {Λ : Loops 𝓤 H} {p : Post 𝓤 H} {xs : List Operand} {d : Place} {rest : Body} where
-    -- `from_bit`: what s owns is had twice, and stays
+    -- `from_bit`: what s owns is had twice, and stays.
     pub starts : K → FmC 𝓤 H (W .laws) C → Triple 𝓤 (C #reader·from-bit) (From 𝓤 H A mem run) → (n : ℕ) → n < 2 ^ 64
         → Opds K W (raw (From 𝓤 H A mem run .pre (to-from n)) ∷ ‵ (OwnSlice κ s) ∷ Γ) E xs (sliceOf s ∷ vint w64 n ∷ [])
         → ((u : Val) → IsReader u → Seq K W (‵ (OwnReader κ s n u) ∷ Token κ q ∷ ‵ (OwnSlice κ s) ∷ Γ) (lands C Λ E d u rest p))
@@ -190,7 +190,7 @@ module _ {M : Type 1} (𝓤 : URA M) (H : Heap 𝓤) (A : Atoms 𝓤) (W : Given
         answers-reader t tt n u ens
         (λ r. exE 𝓤 _ (λ ws. snd∗ 𝓤 (sem 𝓤 H A (lasts from_bit.ended (κ, tt) (s, (n, tt)) ws)) (fact 𝓤 ((r .src ≡ s) × (r .at ≡ n))))) (k u))
 
-    -- `past`
+    -- `past`.
     pub passes : K → FmC 𝓤 H (W .laws) C → Triple 𝓤 (C #reader·past) (Past 𝓤 H A mem run) → (m : ℕ) (u₀ : Val) (w : ℕ) → w < 2 ^ 64 → m + w < 2 ^ 64
         → Opds K W (raw (Past 𝓤 H A mem run .pre (to-past m u₀ w)) ∷ Γ) E xs (u₀ ∷ vint w64 w ∷ [])
         → ((u : Val) → IsReader u → Seq K W (‵ (OwnReader κ s (m + w) u) ∷ Token κ q ∷ Γ) (lands C Λ E d u rest p))
@@ -203,7 +203,7 @@ module _ {M : Type 1} (𝓤 : URA M) (H : Heap 𝓤) (A : Atoms 𝓤) (W : Given
         answers-reader t tt (m + w) u ens
         (λ r. exE 𝓤 _ (λ ws. snd∗ 𝓤 (sem 𝓤 H A (lasts past.ended (κ, tt) (readerAt s m, (w, tt)) ws)) (fact 𝓤 ((r .src ≡ s) × (r .at ≡ m + w))))) (k u))
 
-    -- `take`
+    -- `take`.
     pub takes : K → FmC 𝓤 H (W .laws) C → Triple 𝓤 (C #reader·take) (Take 𝓤 H A mem run) → (m : ℕ) (u : Val) (w : ℕ) → w < 2 ^ 64 → FieldInside (now s) m w
         → Opds K W (raw (Take 𝓤 H A mem run .pre (to-take m u w)) ∷ Γ) E xs (u ∷ vint w64 w ∷ [])
         → ((x : Val) (y : ℕ) → y ≡ fieldAt (now s) m w → Holds (hasTy (tyInt w32) x) × WT x

@@ -4,6 +4,6 @@ use mathlib.Core.List.{List}
 use Rattle.field.specs.Bits.{fieldAt}
 use Rattle.reader.specs.declared.Triple.{Triple}
 
--- the fields of a, b and c bits from bit p on
+-- The fields of a, b and c bits from bit p on.
 abbrev pub threeAt : List ℕ → ℕ → ℕ → ℕ → ℕ → Triple
 threeAt s p a b c = record { first = fieldAt s p a; second = fieldAt s (p + a) b; third = fieldAt s (p + a + b) c }

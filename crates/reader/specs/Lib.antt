@@ -1,1 +1,2 @@
+-- Fields that a reader takes.
 pub mod Fields

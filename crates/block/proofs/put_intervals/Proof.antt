@@ -15,7 +15,7 @@ use Rattle.block.proofs.RoundTrip.{width-intervals}
 use Rattle.block.proofs.put_intervals.Statement.{statement}
 use Rattle.block.proofs.put_intervals.Tie as tie
 
--- one interval more
+-- One interval more.
 more : (s x y : List ℕ) (c : Component) (i a : ℕ) → x ≡ putAll s (placeOf 0) (intervalsOf c i) → a ≡ placeOf i → y ≡ putAll x a (intervalOf c i)
     → y ≡ putAll s (placeOf 0) (intervalsOf c (i + 1))
 unfolding intervalsOf

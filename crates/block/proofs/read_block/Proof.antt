@@ -17,14 +17,14 @@ use Rattle.block.proofs.Laws.{Uncut, narrow, is-uncut, is-cut, block-un
 use Rattle.block.proofs.read_block.Statement.{statement}
 use Rattle.block.proofs.read_block.Tie as tie
 
--- the sheet's part, and k as it was read
+-- The sheet's part, and k as it was read.
 abbrev part : tie.After-three → List ℕ
 part c = now (c .before .before .before .args .part)
 
 counted : (c : tie.After-three) → c .three .result .first ≡ countIn (part c)
 counted c = ap (λ (t : Triple). t .first) (c .three .ensures)
 
--- the answer, of its parts
+-- The answer, of its parts.
 built : (s : List ℕ) (h : Triple) (size end padding : ℕ) (c : Component) (b : Bool) → h ≡ threeAt s 0 countBits zeroBits totalBits
     → size ≡ sizeOf (h .first) → end ≡ placeOf (h .first) → padding ≡ fieldAt s end (8 * size - end)
     → c ≡ componentOf s (h .first) (h .third) → b ≡ (ltb 0 (h .second) || ltb 0 padding) → Uncut s
@@ -32,7 +32,7 @@ built : (s : List ℕ) (h : Triple) (size end padding : ℕ) (c : Component) (b 
 unfolding badZeroBits
 built s h size end padding c b e z p f g i u = rw (i, g, f, z, p, e) (sym (block-uncut s (is-uncut s u)))
 
--- no block, where this one is cut short
+-- No block, where this one is cut short.
 none : (s : List ℕ) (b : Block) → b ≡ noBlock → (Uncut s → ⊥) → b ≡ blockIn s
 none s b e h = e ∙ sym (block-cut s (is-cut s h))
 

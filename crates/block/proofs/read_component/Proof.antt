@@ -17,11 +17,11 @@ use Rattle.block.proofs.Laws.{narrow}
 use Rattle.block.proofs.read_component.Statement.{statement}
 use Rattle.block.proofs.read_component.Tie as tie
 
--- the component after k intervals
+-- The component after k intervals.
 abbrev soFar : List ℕ → ℕ → Component
 soFar s k = filledWith (intervalIn s) k 0 0
 
--- one interval more
+-- One interval more.
 abbrev with-interval : Component → ℕ → Triple → Component
 with-interval c i t =
     record {
@@ -37,7 +37,7 @@ turn : (s : List ℕ) (i p : ℕ) (c : Component) (t : Triple) → c ≡ soFar s
 unfolding row
 turn s i p c t e q f = rw (e, f, q, add-one)
 
--- the count and the total put in
+-- The count and the total put in.
 last : (s : List ℕ) (k t : ℕ) (c : Component) → c ≡ soFar s k
     → _≡_ {A = Component} (record { lows = c .lows; highs = c .highs; weights = c .weights; count = k; total = t }) (componentOf s k t)
 unfolding componentOf
@@ -53,7 +53,7 @@ loop-holds : tie.Need-loop-holds Inv-loop μ-loop
 unfolding row
 loop-holds c = (omega arith, c .zero-component .ensures)
 
--- an interval's fields fit
+-- An interval's fields fit.
 fit : (c : tie.After-three Inv-loop μ-loop) → (c .three .result .first < 2 ^ 16) × (c .three .result .second < 2 ^ 16) × (c .three .result .third < 2 ^ 16)
 fit c = narrow _ _ speedBits speedBits weightBits (c .three .result) (lit≤ tt) (lit≤ tt) (lit≤ tt) (c .three .ensures)
 

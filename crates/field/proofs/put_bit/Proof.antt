@@ -10,23 +10,23 @@ use Rattle.field.proofs.Put.{put-lt}
 use Rattle.field.proofs.put_bit.Statement.{statement}
 use Rattle.field.proofs.put_bit.Tie as tie
 
--- a bit's share of x
+-- A bit's share of x.
 share : (x p : ℕ) → x / p % 2 * p ≤ x
 share x p = le-trans (mul-le-mul-right p (mod-le (x / p) 2)) (div-mul-le-self x p)
 
--- one power at most
+-- One power at most.
 once : (b k : ℕ) → b < 2 → k ≤ 7 → b * 2 ^ k ≤ 128
 once b k hb hk =
     let h : b ≤ 1 = omega arith in
     omega (arith, mul-le-mul-right (2 ^ k) h, one-mul (2 ^ k), pow-mono {j = 7} hk)
 
--- the product at the code's power
+-- The product at the code's power.
 once-here : (c : tie.After-wide) (b : ℕ) → b < 2 → b * c .before .before .pow2 .result ≤ 128
 once-here c b h =
     let j = c .before .before .before .before .args .j in
     rw (c .before .before .pow2 .ensures) (once b (7 - j % 8) h (omega arith))
 
--- the byte that is stored
+-- The byte that is stored.
 stored-lt : (c : tie.After-wide) → withBit (c .wide .result) (c .before .before .pow2 .result) (c .before .before .before .before .args .b) < 256
 stored-lt c =
     let a = c .before .before .before .before .args in

@@ -20,7 +20,7 @@ Inv-loop dst₀ at width value v k₀ dst k = (k ≤ width) × (dst ≡ putAt ds
 abbrev μ-loop : tie.MeasureT-loop
 μ-loop dst₀ at width value v k₀ dst k = width - k
 
--- one bit more
+-- One bit more.
 more : (s : List ℕ) (a w k v : ℕ) → k < w
     → setBit (putAt s a k (v / 2 ^ (w - k))) (a + k) (v / 2 ^ (w - 1 - k) % 2) ≡ putAt s a (k + 1) (v / 2 ^ (w - (k + 1)))
 unfolding putAt

@@ -37,10 +37,9 @@ loop-holds c = (omega arith, rw (from-zero (entryCount (c .before .args .n))) (z
 
 loop-again : tie.Need-loop-again Inv-loop μ-loop
 loop-again c =
-    let a = c .before .before .before .before .before .args in
-    let l = c .before .before .before .loop in
-    let e : c .names .result ≡ countOf (a .i) (named (entryOf (getD (a .t1) (l .j) 0) ∷ [])) = rw (← c .before .entry-of .ensures .0) (c .names .ensures .0) in
-    (omega arith, more (a .t1) (a .i) (entryCount (a .n)) (l .j) (l .times) (c .names .result) (omega arith) e ∙ l .inv .1, omega arith)
+    let a = c .before .before .before .before .args in
+    let l = c .before .before .loop in
+    (omega arith, more (a .t1) (a .i) (entryCount (a .n)) (l .j) (l .times) (c .names .result) (omega arith) (c .names .ensures .0) ∙ l .inv .1, omega arith)
 
 returns : tie.Need-returns Inv-loop μ-loop
 returns c =
@@ -50,5 +49,5 @@ returns c =
 
 pub times-named-spec : {M : Type 1} → statement M
 times-named-spec =
-    tie.close (tie.spec Inv-loop μ-loop (λ c κs. search needs) loop-holds (λ c. search needs) (λ c κs. search needs) (λ c κs. search needs)
+    tie.close (tie.spec Inv-loop μ-loop (λ c κs. search needs) loop-holds (λ c. search needs) (λ c κs. search needs)
     (λ c. search needs) (λ c. search needs) (λ c. search needs) loop-again returns)

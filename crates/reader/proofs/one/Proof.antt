@@ -75,13 +75,13 @@ module _ {M : Type 1} (𝓤 : URA M) (H : Heap 𝓤) (A : Atoms 𝓤) (W : Given
         alloc1 ! (λ l₀. alloc1 ! (λ l₁. alloc1 ! (λ l₂. alloc1 ! (λ l₃. alloc1 ! (λ l₄. alloc1 ! (λ l₅. alloc0 ! $ params1 ! $
         pass1 ! (init ! 8 refl (shr-slice-lawful 𝓤 H A W (named 0) κ u8 .typed s (sliceOf s ∷ []) p .0)) $
         pass1 ! (init ! 6 refl (tt, record { fits = n-fits })) $ pass1 ! (init ! 4 refl (tt, record { fits = w-fits })) $ pass0 ! $
-        -- [the token; what s owns; _5; …], of what the parameters own
+        -- [the token; what s owns; _5; …], of what the parameters own.
         move ! (13 ∷ []) $ fsplit ! $ move ! (1 ∷ []) $ drop ! $ move ! (13 ∷ 0 ∷ []) $
         starts 𝓤 H A W mem run κ q s ! fm known-from n n-fits (both ! (local ! 10 refl) (local ! 8 refl)) (λ u is.
-        -- [the reader; the token; what s owns; _5; …]
+        -- [the reader; the token; what s owns; _5; …].
         landed ! 5 refl is $ assigned ! (local ! 5 refl) 3 refl is $ move ! (1 ∷ 0 ∷ []) $
         takes 𝓤 H A W mem run κ q s ! fm known-take n u w w-fits ok (both ! (local ! 2 refl) (local ! 6 refl)) (λ x y e is′.
-        -- [the field; the token; what s owns; _5; …]
+        -- [the field; the token; what s owns; _5; …].
         landed ! 13 refl is′ $ returns ! (look ! 13 refl) $
         gone ! 13 refl $ gone ! 11 refl $ gone ! 9 refl $ gone ! 7 refl $ gone ! 5 refl $ gone ! 3 refl $ free0 ! $ by ! (exits y x e)))))))))
 

@@ -71,7 +71,7 @@ module _ {M : Type 1} (𝓤 : URA M) (H : Heap 𝓤) (A : Atoms 𝓤) (W : Given
       (T′.lowered d′) d′ (tt, (tt, tt)) (tt, (tt, tt))) $
       says ! (refl, refl) $ frame ! $ fsplit ! $ use1 W (‵ Own ⊛ ‵ Own) (LL.copy (T.the-type α) (T′.the-copy α) 𝓤 H A W .twice d (mach ∷ [])) $
       split ! $ move ! (0 ∷ 2 ∷ []) $ fjoin ! $ frame ! $
-      -- [what the struct owns]: the number's facts take the place of at's
+      -- [what the struct owns]: the number's facts take the place of at's.
       owned ! usize (Is usize) (uint-makes 𝓤 H A W w64) (d .at + n) _ (refl, ok) $ move ! (1 ∷ 0 ∷ []) $
       by ! (own-put 𝓤 H A W (T.the-type α) (T′.the-laws α) 1 (d .src, (d .at, tt)) (d .at + n) mach)
 
@@ -82,7 +82,7 @@ module _ {M : Type 1} (𝓤 : URA M) (H : Heap 𝓤) (A : Atoms 𝓤) (W : Given
         qed W (Token κ q ∷ ‵ (owns (B (κ, tt) ∷ usize ∷ []) (d, (n, tt)) vals) ∷ []) ∵ enter ! C Λ code.function (mach ∷ vint w64 n ∷ []) _ $
         alloc1 ! (λ l₀. alloc1 ! (λ l₁. alloc1 ! (λ l₂. alloc1 ! (λ l₃. alloc1 ! (λ l₄. alloc1 ! (λ l₅. alloc0 ! $ params1 ! $
         pass1 ! (init ! 8 refl wt) $ pass1 ! (init ! 6 refl (tt, record { fits = n-fits })) $ pass0 ! $
-        -- [_5; …; _4; …; _3; …; _2; …; _1; …; room for _0; …; the token; what r and width own]
+        -- [_5; …; _4; …; _3; …; _2; …; _1; …; room for _0; …; the token; what r and width own].
         assigned ! (load ! (from ! (fld ! refl (stop !))) (look-in ! 8 (sub ! 0 refl (whole !)))) 4 refl (tt, wt .1 .0) $
         assigned ! (load ! (from ! (fld ! refl (stop !))) (look-in ! 8 (sub ! 1 refl (whole !)))) 2 refl (tt, wt .1 .1 .0) $
         assigns ! (bin ! (local ! 2 refl) (local ! 6 refl) (record { fits = ok })) (from ! (stop !)) (init ! 0 refl (tt, record { fits = ok })) $

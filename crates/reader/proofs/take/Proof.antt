@@ -60,7 +60,7 @@ abbrev stayed : Stays (take.ended .signature .params) (take.ended .kept)
 stayed = (stay-none B yes, (stay-none (λ _. usize) yes, tt))
 
 module _ {M : Type 1} (𝓤 : URA M) (H : Heap 𝓤) (A : Atoms 𝓤) (mem : Memory → SProp 𝓤) (run : Routine → Fun 𝓤) where
-  -- the contract that the proof cites
+  -- The contract that the proof cites.
   abbrev StepAt : Contract 𝓤
   StepAt = tripleOf 𝓤 H A step.signature (step.spec 𝓤 H A mem run)
 
@@ -81,7 +81,7 @@ module _ {M : Type 1} (𝓤 : URA M) (H : Heap 𝓤) (A : Atoms 𝓤) (W : Given
   abbrev Own : Fml
   Own = B (κ, tt) .own d (mach ∷ [])
 
-  -- the struct's type and laws, and d's fields' values
+  -- The struct's type and laws, and d's fields' values.
   abbrev D : Declared
   D = T.the-type (namedLft 1 0 tt (κ, tt))
 
@@ -91,7 +91,7 @@ module _ {M : Type 1} (𝓤 : URA M) (H : Heap 𝓤) (A : Atoms 𝓤) (W : Given
   abbrev vd : Values (D .parts)
   vd = (d .src, (d .at, tt))
 
-  -- what the callee is passed
+  -- What the callee is passed.
   abbrev passed : Vals step.signature (κ, tt)
   passed = (sliceOf (d .src) ∷ [], (vint w64 (d .at) ∷ [], (vint w64 n ∷ [], tt)))
 
@@ -101,14 +101,14 @@ module _ {M : Type 1} (𝓤 : URA M) (H : Heap 𝓤) (A : Atoms 𝓤) (W : Given
   asked : ent 𝓤 (onEntry 𝓤 H A step.signature (κ, tt) (q, tt) (d .src, (d .at, (n, tt))) passed) (StepAt 𝓤 H A mem run .pre to)
   asked = qed W (Token κ q ∷ ‵ (owns (ShrSlice (named 0) κ u8 ∷ usize ∷ usize ∷ []) (d .src, (d .at, (n, tt))) passed) ∷ []) ∵ says ! ok $ frame ! $ done !
 
-  -- what the struct owns gives what the callee asks, and is kept
+  -- What the struct owns gives what the callee asks, and is kept.
   apart : d .at < 2 ^ 64 → ent 𝓤 (onEntry 𝓤 H A take.signature (κ, tt) (q, tt) (d, (n, tt)) vals) (sep 𝓤 (StepAt 𝓤 H A mem run .pre to) (sem 𝓤 H A Own))
   apart fits =
       qed W (Token κ q ∷ ‵ (owns (B (κ, tt) ∷ usize ∷ []) (d, (n, tt)) vals) ∷ []) ∵ move ! (1 ∷ []) $ fsplit ! $ move ! (1 ∷ []) $ drop ! $
       use1 W (‵ Own ⊛ ‵ Own) (LL.copy D (T′.the-copy (namedLft 1 0 tt (κ, tt))) 𝓤 H A W .twice d (mach ∷ [])) $ split ! $
       use1 W (given (mach ∷ [] ≡ mach ∷ []) (‵ (all-own (D .parts) L vd))) (own-open 𝓤 H A W D L vd mach) $ learn ! (λ _.
       use1 W (‵ (ownAt (D .parts) L 0 (d .src)) ⊛ ‵ (rest (D .parts) L 0 vd)) (own-out 𝓤 H A W (D .parts) L 0 vd) $ split ! $
-      -- [what src owns; what at owns; what the struct owns; the token]
+      -- [what src owns; what at owns; what the struct owns; the token].
       move ! (1 ∷ []) $ drop ! $ nothing ! $ number ! n n-fits $ number ! (d .at) fits $ move ! (1 ∷ 0 ∷ []) $ fjoin ! $
       move ! (2 ∷ 0 ∷ []) $ use2 W (raw (StepAt 𝓤 H A mem run .pre to)) asked $ frame ! $ done !)
 
@@ -127,16 +127,16 @@ module _ {M : Type 1} (𝓤 : URA M) (H : Heap 𝓤) (A : Atoms 𝓤) (W : Given
         qed W (raw (onEntry 𝓤 H A take.signature (κ, tt) (q, tt) (d, (n, tt)) vals) ∷ []) ∵ enter ! C Λ code.function (mach ∷ vint w64 n ∷ []) _ $
         alloc1 ! (λ l₀. alloc1 ! (λ l₁. alloc1 ! (λ l₂. alloc1 ! (λ l₃. alloc1 ! (λ l₄. alloc0 ! $ params1 ! $
         pass1 ! (init ! 6 refl wt) $ pass1 ! (init ! 4 refl (tt, record { fits = n-fits })) $ pass0 ! $
-        -- [_4; …; _3; …; _2; …; _1; …; room for _0; …; all at entry]
+        -- [_4; …; _3; …; _2; …; _1; …; room for _0; …; all at entry].
         assigned ! (load ! (from ! (fld ! refl (stop !))) (look-in ! 6 (sub ! 0 refl (whole !)))) 2 refl (tt, wt .1 .0) $
         assigned ! (load ! (from ! (fld ! refl (stop !))) (look-in ! 6 (sub ! 1 refl (whole !)))) 0 refl (tt, wt .1 .1 .0) $
         move ! (10 ∷ []) $ use1 W (raw (StepAt 𝓤 H A mem run .pre to) ⊛ ‵ Own) (apart (wt .1 .1 .0 .fits)) $ split ! $
         calls-at ! fm (StepAt 𝓤 H A mem run) known to (and-then ! (local ! 4 refl) (both ! (local ! 2 refl) (local ! 6 refl))) (λ u.
         use1 W (later (some (λ (r : ℕ). (Token κ q ⊛ ‵ (u32 .own r (u ∷ []))) ⊛ raw (ens r)))) (id⊢ 𝓤 _) $
-        -- of what the callee ensures, the clause alone: it has no `&mut`, so what is said of last values is dropped
+        -- Of what the callee ensures, the clause alone: it has no `&mut`, so what is said of last values is dropped.
         answered 𝓤 H A W mem run κ q (d .src) ! tt (λ r. u32 .own r (u ∷ [])) (λ r. r ≡ found) ens
         (λ r. exE 𝓤 _ (λ ws. snd∗ 𝓤 (sem 𝓤 H A (lasts step.ended (κ, tt) (d .src, (d .at, (n, tt))) ws)) (fact 𝓤 (r ≡ found)))) (λ r e.
-        -- [the result; the token; what the struct owns; _4; …; _3; …; _2; …; _1; …; room for _0; …]
+        -- [the result; the token; what the struct owns; _4; …; _3; …; _2; …; _1; …; room for _0; …].
         peeks ! u32 (Is u32) (shows 𝓤 H A u32) r (u ∷ []) (λ is.
         landed ! 11 refl (uint-lawful 𝓤 H A W w32 .typed r _ is .0) $ returns ! (look ! 11 refl) $
         gone ! 11 refl $ gone ! 9 refl $ gone ! 7 refl $ gone ! 5 refl $ gone ! 3 refl $ free0 ! $ by ! (exits r u e)))))))))

@@ -60,7 +60,7 @@ use Rattle.reader.proofs.three as three
 use Rattle.reader.proofs.three.Statement as stated
 use Rattle.reader.proofs.three.Code as code
 
--- what stays as it was: the slice, and each of the four numbers
+-- What stays as it was: the slice, and each of the four numbers.
 abbrev stayed : Stays (three.ended .signature .params) (three.ended .kept)
 stayed =
     let number = stay-none (λ _. usize) yes in
@@ -70,7 +70,7 @@ module _ {M : Type 1} (𝓤 : URA M) (H : Heap 𝓤) (A : Atoms 𝓤) (mem : Mem
   abbrev Of : Contract 𝓤
   Of = tripleOf 𝓤 H A of.signature (of.spec 𝓤 H A mem run)
 
--- three numbers as a `Triple`
+-- Three numbers as a `Triple`.
 abbrev made : ℕ → ℕ → ℕ → Triple
 made a b c = record { first = a; second = b; third = c }
 
@@ -86,7 +86,7 @@ module _ {M : Type 1} (𝓤 : URA M) (H : Heap 𝓤) (A : Atoms 𝓤) (W : Given
   abbrev Post : Val → SProp 𝓤
   Post = walkOf 𝓤 H A three.ended stayed (three.clauses 𝓤 H A mem run) .post (((κ, tt), (q, tt), tt, args, vals), tt)
 
-  -- the call of `triple_of`: what it is called with, what it asks, and what it says
+  -- The call of `triple_of`: what it is called with, what it asks, and what it says.
   abbrev to-of : (x y z : ℕ) (u₁ u₂ u₃ : Val) → Of 𝓤 H A mem run .Ghost
   to-of x y z u₁ u₂ u₃ = ((tt, tt, tt, (x, (y, (z, tt))), (u₁ ∷ [], (u₂ ∷ [], (u₃ ∷ [], tt)))), tt)
 
@@ -109,7 +109,7 @@ module _ {M : Type 1} (𝓤 : URA M) (H : Heap 𝓤) (A : Atoms 𝓤) (W : Given
       number ! a a-fits $ number ! n n-fits $
       move ! (2 ∷ 0 ∷ []) $ fjoin ! $ frame ! $ done !
 
-  -- what is taken is what is asked
+  -- What is taken is what is asked.
   right : (x y z : ℕ) (t : Triple) → x ≡ fieldAt (now s) n a → y ≡ fieldAt (now s) (n + a) b → z ≡ fieldAt (now s) (n + a + b) c
       → t ≡ made x y z → t ≡ threeAt (now s) n a b c
   right x y z t p q r e = rw (e, p, q, r)
@@ -129,32 +129,32 @@ module _ {M : Type 1} (𝓤 : URA M) (H : Heap 𝓤) (A : Atoms 𝓤) (W : Given
         pass1 ! (init ! 30 refl (shr-slice-lawful 𝓤 H A W (named 0) κ u8 .typed s (sliceOf s ∷ []) p .0)) $
         pass1 ! (init ! 28 refl (tt, record { fits = n-fits })) $ pass1 ! (init ! 26 refl (tt, record { fits = a-fits })) $
         pass1 ! (init ! 24 refl (tt, record { fits = b-fits })) $ pass1 ! (init ! 22 refl (tt, record { fits = c-fits })) $ pass0 ! $
-        -- [the token; what s owns; _16; …], of what the parameters own
+        -- [the token; what s owns; _16; …], of what the parameters own.
         move ! (35 ∷ []) $ fsplit ! $ move ! (1 ∷ []) $ drop ! $ move ! (35 ∷ 0 ∷ []) $
         starts 𝓤 H A W mem run κ q s ! fm known-from n n-fits (both ! (local ! 32 refl) (local ! 30 refl)) (λ u₀ is₀.
-        -- [the reader; the token; what s owns; _16; …]
+        -- [the reader; the token; what s owns; _16; …].
         landed ! 23 refl is₀ $ assigned ! (local ! 23 refl) 11 refl is₀ $ doubled 𝓤 H A W mem run κ q s ! n u₀ $
         takes 𝓤 H A W mem run κ q s ! fm known-take n u₀ a a-fits (ok .0) (both ! (local ! 11 refl) (local ! 29 refl)) (λ x₁ y₁ e₁ is₁.
-        -- [the first; the token; the reader; what s owns; _16; …]
+        -- [the first; the token; the reader; what s owns; _16; …].
         landed ! 22 refl is₁ $ assigned ! (local ! 24 refl) 10 refl is₀ $ move ! (1 ∷ 2 ∷ []) $
         passes 𝓤 H A W mem run κ q s ! fm known-past n u₀ a a-fits (omega arith) (both ! (local ! 9 refl) (local ! 29 refl)) (λ u₁ js₁.
-        -- [the reader; the token; the first; what s owns; _16; …]
+        -- [the reader; the token; the first; what s owns; _16; …].
         landed ! 20 refl js₁ $ assigned ! (local ! 20 refl) 8 refl js₁ $ doubled 𝓤 H A W mem run κ q s ! (n + a) u₁ $
         takes 𝓤 H A W mem run κ q s ! fm known-take (n + a) u₁ b b-fits (ok .1) (both ! (local ! 8 refl) (local ! 28 refl)) (λ x₂ y₂ e₂ is₂.
-        -- [the second; the token; the reader; the first; what s owns; _16; …]
+        -- [the second; the token; the reader; the first; what s owns; _16; …].
         landed ! 19 refl is₂ $ assigned ! (local ! 21 refl) 7 refl js₁ $ move ! (1 ∷ 2 ∷ []) $
         passes 𝓤 H A W mem run κ q s ! fm known-past (n + a) u₁ b b-fits (omega arith) (both ! (local ! 6 refl) (local ! 28 refl)) (λ u₂ js₂.
-        -- [the reader; the token; the second; the first; what s owns; _16; …]
+        -- [the reader; the token; the second; the first; what s owns; _16; …].
         landed ! 17 refl js₂ $ assigned ! (local ! 17 refl) 5 refl js₂ $ move ! (1 ∷ 0 ∷ []) $
         takes 𝓤 H A W mem run κ q s ! fm known-take (n + a + b) u₂ c c-fits (ok .2) (both ! (local ! 4 refl) (local ! 26 refl)) (λ x₃ y₃ e₃ is₃.
-        -- [the third; the token; the second; the first; what s owns; _16; …]
+        -- [the third; the token; the second; the first; what s owns; _16; …].
         landed ! 15 refl is₃ $ move ! (0 ∷ 2 ∷ 3 ∷ []) $ use3 W (raw (Of 𝓤 H A mem run .pre (to-of y₁ y₂ y₃ x₁ x₂ x₃))) (ask-of y₁ y₂ y₃ x₁ x₂ x₃) $
         calls-at ! fm (Of 𝓤 H A mem run) known-of (to-of y₁ y₂ y₃ x₁ x₂ x₃) (and-then ! (local ! 21 refl) (both ! (local ! 17 refl) (local ! 13 refl))) (λ w.
         use1 W (later (some (λ (t : Triple).
         (‵ ftrue ⊛ ‵ (S.the-row .own t (w ∷ []))) ⊛ raw (ensured 𝓤 H A of.ended (of.clauses 𝓤 H A mem run) tt (y₁, (y₂, (y₃, tt))) tt t)))) (id⊢ 𝓤 _) $
         await ! tt $ pick ! (λ t. split ! $ move ! (1 ∷ []) $ use1 W (raw (fact 𝓤 (t ≡ made y₁ y₂ y₃))) (said-of y₁ y₂ y₃ t) $
         heard ! (t ≡ made y₁ y₂ y₃) (λ e. split ! $ drop ! $
-        -- [the result; the token; what s owns; _16; …]
+        -- [the result; the token; what s owns; _16; …].
         peeks ! S.the-row (Is S.the-row) (shows 𝓤 H A S.the-row) t (w ∷ []) (λ is.
         land ! (from ! (stop !)) (init ! 35 refl (LL.lawful S.the-type S′.the-laws 𝓤 H A W .typed t _ is .0)) $ returns ! (look ! 35 refl) $
         gone ! 35 refl $ gone ! 33 refl $ gone ! 31 refl $ gone ! 29 refl $ gone ! 27 refl $ gone ! 25 refl $ gone ! 23 refl $
