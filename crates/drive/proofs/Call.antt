@@ -15,7 +15,7 @@ use Rattle.evaluate.specs.declared.Answer.{Answer}
 use Rattle.evaluate.specs.Answer.{answer}
 use Rattle.evaluate.specs.Store.{storeAfter}
 use Rattle.evaluate.specs.Demands.{by-test}
-use Rattle.evaluate.proofs.Numbers.{first-in-front, first-behind}
+use Rattle.plan.proofs.Numbers.{first-in-front, first-behind}
 use Rattle.evaluate.proofs.Demands.{demand-1, answer-fits}
 use Rattle.drive.specs.Call.{answerBytes, encodeAnswer, numberReturned, listAfter, answerAfter, Call}
 

@@ -2,7 +2,7 @@
 use Prim.Native.Nat.{ℕ, zero, suc, _^_, _≤_, _<_}
 use mathlib.Core.Path.{_≡_, refl, sym, ap, subst, _∙_}
 use mathlib.Core.Logic.{_⊎_, inl, inr}
-use mathlib.Core.Bool.{Bool, true, false, cond}
+use mathlib.Core.Bool.{Bool, true, false, cond, false≢true}
 use mathlib.Core.List.{List, []}
 use native.Mathlib.Nat.{le-trans, pow-le-pow-right}
 use native.Mathlib.Decide.{ℕ-discrete}
@@ -40,11 +40,11 @@ use Rattle.run.specs.Run.{needed, cleared}
 use Rattle.plan.proofs.Entries.{components-count}
 use Rattle.evaluate.specs.declared.Answer.{Answer}
 use Rattle.evaluate.specs.Answer.{planOf, components, structure, sheetOutcomes, sheetList, callTests, ending, refusal, answerOf}
-use Rattle.evaluate.specs.Store.{storeBy}
+use Rattle.evaluate.specs.Store.{isLate, storeBy}
 use Rattle.evaluate.specs.Store.{storeAfter}
 use Rattle.evaluate.specs.Demands.{Passed, Broken, by-test, by-join, answerAt, answered, Demand-1, Demand-2, Demand-3, DemandsMet, Writer, RoundTrips}
 use Rattle.evaluate.proofs.Numbers.{tests-kept, Ended, tested, stopped, passed, ended, answered-by, stored-by}
-use Rattle.evaluate.proofs.Finish.{WithinAllowance, completes, within, leaves-by, drive-fits, early, late, above, ready}
+use Rattle.evaluate.proofs.Finish.{WithinAllowance, completes, within, leaves-by, drive-fits, late, above, ready}
 
 -- Equal functions over an equal whole have the same bounds.
 bounds-of : {es : List Entry} {cs : List Component} {v w : ℕ} {f g h k : ℕ → ℕ} → v ≡ w → ((d : ℕ) → f d ≡ h d) → ((d : ℕ) → g d ≡ k d)
@@ -99,12 +99,12 @@ module _ (s : List ℕ) (demand allowance : ℕ) (store : List ℕ) where
   storeIn v = storeBy v size (sheetList s) store
 
   store-late : (k : ℕ) → (k ≡ 13) ⊎ (k ≡ 14) → {v : Evaluation Tree} → Ended s allowance room v → numberOf v ≡ k → storeIn v ≡ cleared size store
-  store-late k m (tested h b z) e = absurd (omega (arith, above k m))
-  store-late k m (stopped {k = n} z b q) e = late n b (cleared size store) store
+  store-late k m (tested h b z) e = absurd (false≢true (sym b ∙ (ap isLate e ∙ late k m)))
+  store-late k m (stopped {k = n} z b q) e = rw (late n b)
   store-late k m (passed z q) e = absurd (omega (arith, above k m))
 
   store-kept : (k : ℕ) → 0 < k → (k ≡ 13 → ⊥) → (k ≡ 14 → ⊥) → {v : Evaluation Tree} → Ended s allowance room v → numberOf v ≡ k → storeIn v ≡ store
-  store-kept k h a b (tested {k = n} i m z) e = early n m (cleared size store) store
+  store-kept k h a b (tested i m z) e = rw m
   store-kept k h a b (stopped z (inl m) q) e = absurd (a (sym e ∙ m))
   store-kept k h a b (stopped z (inr m) q) e = absurd (b (sym e ∙ m))
   store-kept k h a b (passed z q) e = absurd (omega arith)

@@ -1,13 +1,13 @@
 -- From the run of a plan to the answer of a call: the list that the run leaves is the drive's, and is read back from the store. Assumes nothing.
 use Prim.Native.Nat.{ℕ, zero, suc, _+_, _*_, _^_, _≤_, _<_}
 use mathlib.Core.Path.{_≡_, refl, sym, ap, _∙_}
-use mathlib.Core.Bool.{Bool, true, false, cond, _||_}
+use mathlib.Core.Bool.{Bool, true, false, cond}
 use mathlib.Core.Logic.{_⊎_, inl, inr}
 use mathlib.Core.List.{List, [], _∷_, map}
 use native.Mathlib.Omega.{arith}
-use lib.Dec.{ltb, eqb}
+use lib.Dec.{ltb}
 use lib.ListN.{length, length-append}
-use borrow.Author.Tests.{ne-eqb, ltb-false}
+use borrow.Author.Tests.{ltb-false}
 use Rattle.theory.specs.Masses.{total}
 use Rattle.theory.specs.Focal.{Focal, weights}
 use Rattle.theory.specs.declared.Component.{Component}
@@ -34,12 +34,12 @@ use Rattle.plan.specs.Plan.{componentsOf, entriesOf}
 use Rattle.plan.specs.Valid.{Valid}
 use Rattle.writing.proofs.Theorems.{read-valid}
 use Rattle.run.specs.declared.Ran.{Ran}
-use Rattle.run.specs.Run.{needed, walked, ranOf, cleared, storeOf, Runnable}
+use Rattle.run.specs.Run.{needed, walked, ranOf, storeOf, Runnable}
 use Rattle.plan.proofs.Entries.{components-count}
 use Rattle.run.proofs.Stacked.{fits-record}
 use Rattle.evaluate.specs.Answer.{planOf, components, structure, sheetOutcomes, sheetList, callTests, evaluated, ending, refusal, answer}
-use Rattle.evaluate.specs.Store.{storeAfter}
-use Rattle.evaluate.proofs.Numbers.{tests-most, tests-say, answered-by, stored-by}
+use Rattle.evaluate.specs.Store.{isLate, storeAfter}
+use Rattle.evaluate.proofs.Numbers.{tests-early, tests-say, answered-by, stored-by}
 
 -- ---- a completed evaluation has formed no more pairs than the allowance
 
@@ -106,15 +106,12 @@ module _ {p : Plan} (valid : Valid p) where
 settled-room : (size : ℕ) (l : List Focal) (s : List ℕ) → recordBytes * length l ≤ length (settled size l s)
 settled-room size l s = simp length-append (omega (arith, length-encode l))
 
--- 13 and 14 clear the store, and lie above the numbers of the tests, which do not
-pub early : (k : ℕ) → k ≤ 12 → (x y : List ℕ) → cond (eqb k 13 || eqb k 14) x y ≡ y
-early k h x y = rw (ne-eqb k 13 (λ q. omega arith), ne-eqb k 14 (λ q. omega arith))
+-- 13 and 14 are late.
+pub late : (k : ℕ) → (k ≡ 13) ⊎ (k ≡ 14) → isLate k ≡ true
+late k (inl e) = rw e
+late k (inr e) = rw e
 
-pub late : (k : ℕ) → (k ≡ 13) ⊎ (k ≡ 14) → (x y : List ℕ) → cond (eqb k 13 || eqb k 14) x y ≡ x
-late k (inl e) x y = rw e
-late k (inr e) x y = rw e
-
-pub above : (k : ℕ) → (k ≡ 13) ⊎ (k ≡ 14) → 12 < k
+pub above : (k : ℕ) → (k ≡ 13) ⊎ (k ≡ 14) → 0 < k
 above k (inl e) = omega arith
 above k (inr e) = omega arith
 
@@ -129,8 +126,8 @@ module _ (s : List ℕ) (demand allowance : ℕ) (store : List ℕ) where
   tested-call zero e z = absurd (z refl)
   tested-call (suc k) e z =
       let w : ending s allowance (length store) ≡ refused (suc k) = rw e in
-      let m : suc k ≤ 12 = omega (arith, tests-most s (length store)) in
-      (sym (answered-by s allowance demand (length store) w), sym (stored-by s allowance store w ∙ early (suc k) m _ store))
+      let m : isLate (suc k) ≡ false = ap isLate (sym e) ∙ tests-early s (length store) in
+      (sym (answered-by s allowance demand (length store) w), sym (stored-by s allowance store w ∙ rw m))
 
   -- A call past the tests, by what the run answers and the store that it leaves.
   pub record Finished (r : Ran) (x : List ℕ) : Type 0 where
@@ -151,7 +148,7 @@ module _ (s : List ℕ) (demand allowance : ℕ) (store : List ℕ) where
           let n : r .number ≡ k = ap (λ (y : Ran). y .number) e in
           let u : ending s allowance (length store) ≡ refused k = rw (z, q) in
           record {
-            stored = f ∙ sym (stored-by s allowance store u ∙ late k l (cleared (needed (planOf s)) store) store);
+            stored = f ∙ sym (stored-by s allowance store u ∙ rw (late k l));
             refuses = λ h. ap refusal n ∙ sym (answered-by s allowance demand (length store) u);
             readable = λ h. absurd (omega (arith, above k l));
             accepts = λ h. absurd (omega (arith, above k l));

@@ -3,7 +3,7 @@ use Prim.Native.Nat.{ℕ, zero, suc, _≤_, _<_}
 use mathlib.Core.Path.{_≡_, refl, sym, ap, _∙_}
 use mathlib.Core.Bool.{Bool, true, false, cond}
 use mathlib.Core.Logic.{_⊎_}
-use mathlib.Core.List.{List, [], _∷_, _++_}
+use mathlib.Core.List.{List, [], _∷_}
 use native.Mathlib.Decide.{ℕ-discrete}
 use native.Mathlib.Omega.{arith}
 use lib.Dec.{ltb}
@@ -15,22 +15,13 @@ use Rattle.theory.specs.Lists.{driveList}
 use Rattle.theory.specs.Evaluation.{Evaluation, completed, refused}
 use Rattle.theory.proofs.Method.{evaluate-refused}
 use Rattle.reading.specs.declared.Reading.{Reading}
-use Rattle.plan.specs.Tests.{Test, test, firstBroken, Unbroken, First, here, later}
+use Rattle.plan.specs.Tests.{Test, test, firstBroken, Unbroken}
 use Rattle.reading.specs.Reading.{sheetTests, readOf}
 use Rattle.reading.proofs.Decided.{read-number}
-use Rattle.plan.proofs.Numbers.{no-number, most-number, first-found, first-none}
+use Rattle.plan.proofs.Numbers.{no-number, number-never, first-found, first-none}
 use Rattle.run.specs.Run.{needed}
 use Rattle.evaluate.specs.Answer.{planOf, components, structure, callTests, testedOf, evaluated, testedFirst, ending, answerOf, answer}
-use Rattle.evaluate.specs.Store.{storeBy, storeAfter}
-
--- The first broken test is the first of a longer list too.
-pub first-in-front : {ts : List Test} {k : ℕ} → First ts k → (us : List Test) → First (ts ++ us) k
-first-in-front (here q e) us = here q e
-first-in-front (later q r) us = later q (first-in-front r us)
-
-pub first-behind : {ts us : List Test} {k : ℕ} → Every Unbroken ts → First us k → First (ts ++ us) k
-first-behind Every.none f = f
-first-behind (Every.more q r) f = later q (first-behind r f)
+use Rattle.evaluate.specs.Store.{isLate, storeBy, storeAfter}
 
 -- The tests of a call.
 module _ (s : List ℕ) (room : ℕ) where
@@ -46,8 +37,8 @@ module _ (s : List ℕ) (room : ℕ) where
   pub tests-kept : firstBroken (callTests s room) ≡ 0 → Every Unbroken (callTests s room)
   tests-kept = no-number 12 (callTests s room) refl
 
-  pub tests-most : firstBroken (callTests s room) ≤ 12
-  tests-most = most-number 12 (callTests s room) refl
+  pub tests-early : isLate (firstBroken (callTests s room)) ≡ false
+  tests-early = number-never isLate refl (callTests s room) refl
 
   -- What is known of a sheet and a store where no test is broken.
   pub tests-say : firstBroken (callTests s room) ≡ 0 → ((readOf s) .number ≡ 0) × (needed (planOf s) ≤ room)
@@ -82,7 +73,7 @@ module _ (s : List ℕ) (room : ℕ) where
 
 -- What a call ends in: refused by a test, at a join, or accepted.
 pub data Ended (s : List ℕ) (allowance room : ℕ) : Evaluation Tree → Type 0 where
-  tested : {k : ℕ} → 0 < k → k ≤ 12 → firstBroken (callTests s room) ≡ k → Ended s allowance room (refused k)
+  tested : {k : ℕ} → 0 < k → isLate k ≡ false → firstBroken (callTests s room) ≡ k → Ended s allowance room (refused k)
   stopped : {k : ℕ} → firstBroken (callTests s room) ≡ 0 → (k ≡ 13) ⊎ (k ≡ 14) → evaluated s allowance ≡ refused k → Ended s allowance room (refused k)
   passed : {stack : List Tree} {pairs : ℕ} → firstBroken (callTests s room) ≡ 0 → evaluated s allowance ≡ completed stack pairs
       → Ended s allowance room (completed stack pairs)
@@ -93,7 +84,7 @@ ended s allowance room = go (firstBroken (callTests s room)) refl (evaluated s a
     go : (n : ℕ) → firstBroken (callTests s room) ≡ n → (v : Evaluation Tree) → evaluated s allowance ≡ v → Ended s allowance room (testedFirst n v)
     go zero z (completed stack pairs) q = passed z q
     go zero z (refused k) q = stopped z (evaluate-refused (components s) allowance (structure s) k q) q
-    go (suc k) z v q = tested {k = suc k} (omega arith) (omega (arith, tests-most s room)) z
+    go (suc k) z v q = tested {k = suc k} (omega arith) (ap isLate (sym z) ∙ tests-early s room) z
 
 -- The answer and the store follow.
 module _ (s : List ℕ) (allowance : ℕ) {v : Evaluation Tree} where

@@ -8,7 +8,7 @@ use native.Mathlib.Omega.{arith}
 use Rattle.theory.specs.Sums.{Every, none, more}
 use Rattle.theory.proofs.Every.{every-map}
 use Rattle.plan.specs.Tests.{Test, firstBroken, outside, anyOf, Unbroken, First, here, later}
-use Rattle.plan.proofs.Tests.{every-failed, within}
+use Rattle.plan.proofs.Tests.{every-failed, within, any-none}
 
 pub none-broken : {ts : List Test} → Every Unbroken ts → firstBroken ts ≡ 0
 none-broken none = refl
@@ -34,14 +34,6 @@ is-first (t ∷ ts) k h e = go (t .broken) refl e (is-first ts k h)
     go true q e rest = here q (rw q at e)
     go false q e rest = later q (rest (rw q at e))
 
-at-most : (n : ℕ) {ts : List Test} → Every (λ t. t .number ≤ n) ts → firstBroken ts ≤ n
-at-most n none = omega arith
-at-most n (more {x = t} {xs = ts} p r) = go (t .broken) refl (at-most n r)
-  where
-    go : (b : Bool) → t .broken ≡ b → firstBroken ts ≤ n → firstBroken (t ∷ ts) ≤ n
-    go true q h = rw q p
-    go false q h = rw q h
-
 -- Tests whose numbers are 1 to n, which is seen by a test of all.
 module _ (n : ℕ) (ts : List Test) (e : anyOf (λ t. outside 1 n (t .number)) ts ≡ false) where
   numbers : Every (λ t. (1 ≤ t .number) × (t .number ≤ n)) ts
@@ -53,8 +45,23 @@ module _ (n : ℕ) (ts : List Test) (e : anyOf (λ t. outside 1 n (t .number)) t
   pub accepted-by : (firstBroken ts ≡ 0) ↔ Every Unbroken ts
   accepted-by = (no-number, none-broken)
 
-  pub most-number : firstBroken ts ≤ n
-  most-number = at-most n (every-map (λ t h. h .1) numbers)
+-- The first broken test is the first of a longer list too.
+pub first-in-front : {ts : List Test} {k : ℕ} → First ts k → (us : List Test) → First (ts ++ us) k
+first-in-front (here q e) us = here q e
+first-in-front (later q r) us = later q (first-in-front r us)
+
+pub first-behind : {ts us : List Test} {k : ℕ} → Every Unbroken ts → First us k → First (ts ++ us) k
+first-behind none f = f
+first-behind (more q r) f = later q (first-behind r f)
+
+-- A number that no test has is not answered.
+pub number-never : (bad : ℕ → Bool) → bad 0 ≡ false → (ts : List Test) → anyOf (λ t. bad (t .number)) ts ≡ false → bad (firstBroken ts) ≡ false
+number-never bad z [] e = z
+number-never bad z (t ∷ ts) e = let (h, r) = any-none (λ u. bad (u .number)) t ts e in go (t .broken) h (number-never bad z ts r)
+  where
+    go : (b : Bool) → bad (t .number) ≡ false → bad (firstBroken ts) ≡ false → bad (cond b (t .number) (firstBroken ts)) ≡ false
+    go true h r = h
+    go false h r = r
 
 pub refused-by : (ts : List Test) (k : ℕ) → 0 < k → (firstBroken ts ≡ k) ↔ First ts k
 refused-by ts k h = (is-first ts k h, first-is)
