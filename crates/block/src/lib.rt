@@ -21,9 +21,9 @@ const SPEED_BITS: usize = 12;
 
 const WEIGHT_BITS: usize = 10;
 
-const HEAD_BITS: usize = COUNT_BITS + ZERO_BITS + TOTAL_BITS;
+const BLOCK_HEAD_BITS: usize = COUNT_BITS + ZERO_BITS + TOTAL_BITS;
 
-const HEAD_BYTES: usize = HEAD_BITS / 8;
+const BLOCK_HEAD_BYTES: usize = BLOCK_HEAD_BITS / 8;
 
 const INTERVAL_BITS: usize = SPEED_BITS + SPEED_BITS + WEIGHT_BITS;
 
@@ -41,7 +41,7 @@ fn interval_place(i: usize) -> usize
     requires { ⌜ i ≤ mostHeld ⌝ }
     ensures { λ r. ⌜ r ≡ placeOf i ⌝ }
 {
-    HEAD_BITS + INTERVAL_BITS * i
+    BLOCK_HEAD_BITS + INTERVAL_BITS * i
 }
 
 // The bytes of a block of k intervals.
@@ -104,7 +104,7 @@ fn either_nonzero(a: u32, b: u32) -> bool
 pub fn read_block(part: &[u8]) -> Block
     ensures { λ r. ⌜ r ≡ blockIn (now (part .entry)) ⌝ }
 {
-    if part.len() < HEAD_BYTES {
+    if part.len() < BLOCK_HEAD_BYTES {
         return no_block();
     }
     let head = reader::three(part, 0, COUNT_BITS, ZERO_BITS, TOTAL_BITS);

@@ -63,10 +63,10 @@ module _ (s : List ℕ) (demand allowance : ℕ) (store : List ℕ) where
   abbrev room : ℕ
   room = length store
 
-  abbrev numberOf : Evaluation Tree → ℕ
-  numberOf v = (answerOf v (structure s) (components s) demand) .number
+  abbrev endNumber : Evaluation Tree → ℕ
+  endNumber v = (answerOf v (structure s) (components s) demand) .number
 
-  was-passed : {v : Evaluation Tree} → Ended s allowance room v → numberOf v ≡ 0 → Passed s allowance room
+  was-passed : {v : Evaluation Tree} → Ended s allowance room v → endNumber v ≡ 0 → Passed s allowance room
   was-passed (tested h m z) e = absurd (omega arith)
   was-passed (stopped {k = k} z l q) e = absurd (omega (arith, above k l))
   was-passed (passed {stack = stack} {pairs = pairs} z q) e = record { tests = tests-kept s room z; stack = stack; pairs = pairs; runs = q }
@@ -74,20 +74,20 @@ module _ (s : List ℕ) (demand allowance : ℕ) (store : List ℕ) where
   passes : (pass : Passed s allowance room) → ending s allowance room ≡ completed (pass .stack) (pass .pairs)
   passes pass = rw (none-broken (pass .tests), pass .runs)
 
-  was-broken : (k : ℕ) → 0 < k → {v : Evaluation Tree} → Ended s allowance room v → numberOf v ≡ k → Broken s allowance room k
+  was-broken : (k : ℕ) → 0 < k → {v : Evaluation Tree} → Ended s allowance room v → endNumber v ≡ k → Broken s allowance room k
   was-broken k h (tested l m z) e = by-test (refused-by (callTests s room) k h .0 (z ∙ e))
   was-broken k h (stopped z l q) e = subst (Broken s allowance room) e (by-join (tests-kept s room z) l q)
   was-broken k h (passed z q) e = absurd (omega arith)
 
-  breaks : (k : ℕ) → 0 < k → Broken s allowance room k → numberOf (ending s allowance room) ≡ k
+  breaks : (k : ℕ) → 0 < k → Broken s allowance room k → endNumber (ending s allowance room) ≡ k
   breaks k h (by-join t l q) = rw (none-broken t, q)
   breaks k h (by-test f) = go k h (refused-by (callTests s room) k h .1 f)
     where
-      go : (n : ℕ) → 0 < n → firstBroken (callTests s room) ≡ n → numberOf (ending s allowance room) ≡ n
+      go : (n : ℕ) → 0 < n → firstBroken (callTests s room) ≡ n → endNumber (ending s allowance room) ≡ n
       go zero h e = absurd (omega arith)
       go (suc n) h e = rw e
 
-  zeros : (k : ℕ) → 0 < k → (v : Evaluation Tree) → numberOf v ≡ k → answerOf v (structure s) (components s) demand ≡ refusal k
+  zeros : (k : ℕ) → 0 < k → (v : Evaluation Tree) → endNumber v ≡ k → answerOf v (structure s) (components s) demand ≡ refusal k
   zeros k h (refused n) e = ap refusal e
   zeros k h (completed stack pairs) e = absurd (omega arith)
 
@@ -98,12 +98,12 @@ module _ (s : List ℕ) (demand allowance : ℕ) (store : List ℕ) where
   abbrev storeIn : Evaluation Tree → List ℕ
   storeIn v = storeBy v size (sheetList s) store
 
-  store-late : (k : ℕ) → (k ≡ 13) ⊎ (k ≡ 14) → {v : Evaluation Tree} → Ended s allowance room v → numberOf v ≡ k → storeIn v ≡ cleared size store
+  store-late : (k : ℕ) → (k ≡ 13) ⊎ (k ≡ 14) → {v : Evaluation Tree} → Ended s allowance room v → endNumber v ≡ k → storeIn v ≡ cleared size store
   store-late k m (tested h b z) e = absurd (false≢true (sym b ∙ (ap isLate e ∙ late k m)))
   store-late k m (stopped {k = n} z b q) e = rw (late n b)
   store-late k m (passed z q) e = absurd (omega (arith, above k m))
 
-  store-kept : (k : ℕ) → 0 < k → (k ≡ 13 → ⊥) → (k ≡ 14 → ⊥) → {v : Evaluation Tree} → Ended s allowance room v → numberOf v ≡ k → storeIn v ≡ store
+  store-kept : (k : ℕ) → 0 < k → (k ≡ 13 → ⊥) → (k ≡ 14 → ⊥) → {v : Evaluation Tree} → Ended s allowance room v → endNumber v ≡ k → storeIn v ≡ store
   store-kept k h a b (tested i m z) e = rw m
   store-kept k h a b (stopped z (inl m) q) e = absurd (a (sym e ∙ m))
   store-kept k h a b (stopped z (inr m) q) e = absurd (b (sym e ∙ m))
@@ -114,7 +114,7 @@ module _ (s : List ℕ) (demand allowance : ℕ) (store : List ℕ) where
       let end = ended s allowance room in
       let same = answered-by s allowance demand room refl in
       let stored = stored-by s allowance store refl in
-      let number : (answered s demand allowance store) .number ≡ numberOf (ending s allowance room) = ap (λ (a : Answer). a .number) same in
+      let number : (answered s demand allowance store) .number ≡ endNumber (ending s allowance room) = ap (λ (a : Answer). a .number) same in
       record {
         accepted = (
           λ e. was-passed end (sym number ∙ e),

@@ -65,9 +65,9 @@ module _ (cs : List Component) (allowance : ℕ) where
 -- ---- a plan that keeps the rules
 
 -- How the walk on lists ends, and how the evaluation does.
-pub data Ends (cs : List Component) (es : List Entry) : Evaluation (List Focal) → Evaluation Tree → Type 0 where
-  stops : {k : ℕ} → (k ≡ 13) ⊎ (k ≡ 14) → Ends cs es (refused k) (refused k)
-  leaves-one : {stack : List Tree} {pairs : ℕ} → Leaves cs es stack pairs → Ends cs es (completed (driveList es cs ∷ []) pairs) (completed stack pairs)
+pub data RunEnds (cs : List Component) (es : List Entry) : Evaluation (List Focal) → Evaluation Tree → Type 0 where
+  stops : {k : ℕ} → (k ≡ 13) ⊎ (k ≡ 14) → RunEnds cs es (refused k) (refused k)
+  leaves-one : {stack : List Tree} {pairs : ℕ} → Leaves cs es stack pairs → RunEnds cs es (completed (driveList es cs ∷ []) pairs) (completed stack pairs)
 
 module _ {p : Plan} (valid : Valid p) where
   abbrev cs : List Component
@@ -85,11 +85,11 @@ module _ {p : Plan} (valid : Valid p) where
   pub leaves-by : (allowance : ℕ) (stack : List Tree) (pairs : ℕ) → evaluate cs allowance es ≡ completed stack pairs → Leaves cs es stack pairs
   leaves-by allowance = method (valid .positive) allowance es entries-are each-once (valid .findTwo)
 
-  pub run-ends : (allowance : ℕ) → Ends cs es (walked p allowance) (evaluate cs allowance es)
+  pub run-ends : (allowance : ℕ) → RunEnds cs es (walked p allowance) (evaluate cs allowance es)
   unfolding walked
   run-ends allowance = rw (evaluate-lists (valid .positive) allowance es) (go (evaluate cs allowance es) refl)
     where
-      go : (v : Evaluation Tree) → evaluate cs allowance es ≡ v → Ends cs es (image (listOf cs) v) v
+      go : (v : Evaluation Tree) → evaluate cs allowance es ≡ v → RunEnds cs es (image (listOf cs) v) v
       go (refused k) q = stops (evaluate-refused cs allowance es k q)
       go (completed stack pairs) q =
           let left-over : Leaves cs es stack pairs = leaves-by allowance stack pairs q in
@@ -142,7 +142,7 @@ module _ (s : List ℕ) (demand allowance : ℕ) (store : List ℕ) where
       → r ≡ ranOf (walked (planOf s) allowance) → x ≡ storeOf (needed (planOf s)) (walked (planOf s) allowance) store → Finished r x
   finish z r x e f = go (run-ends (ready s store z .valid) allowance) refl e f
     where
-      go : {w : Evaluation (List Focal)} {v : Evaluation Tree} → Ends (components s) (structure s) w v → evaluated s allowance ≡ v
+      go : {w : Evaluation (List Focal)} {v : Evaluation Tree} → RunEnds (components s) (structure s) w v → evaluated s allowance ≡ v
           → r ≡ ranOf w → x ≡ storeOf (needed (planOf s)) w store → Finished r x
       go {w} {v} (stops {k = k} l) q e f =
           let n : r .number ≡ k = ap (λ (y : Ran). y .number) e in

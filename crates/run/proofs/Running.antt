@@ -40,7 +40,7 @@ use Rattle.run.specs.declared.Step.{Step}
 use Rattle.run.specs.Stack.{emptyStack, listAt, listsBelow, withList, Pushable, pushed, pushedStore, topStart, topCount, topList, topJoined, spent, stop, Applicable, joinStep, joinStore}
 use Rattle.run.specs.Run.{needed, leafList, walked, Runnable}
 use Rattle.run.proofs.Entries.{joinCount, counted}
-use Rattle.run.proofs.Stacked.{Stacked, none, more, Topmost, topmost, fits-record, length-leaf}
+use Rattle.run.proofs.Stacked.{Stacked, none, more, Topmost, topTwoOf, fits-record, length-leaf}
 use Rattle.run.proofs.Placing.{Stored, on-top, stored-next}
 
 -- The bytes that the lists of so many components and joins may take, each behind the one before it.
@@ -170,7 +170,7 @@ module _ {p : Plan} {store₀ : List ℕ} (ready : Runnable p store₀) {allowan
         ap (listsBelow store st) a ∙ ap (λ k. listAt store st k ∷ topList store st 2 ∷ below) b
 
     topTwo : Topmost (running .held) (topList store st 2) (topList store st 1) below
-    topTwo = topmost (rw split at (running .lists))
+    topTwo = topTwoOf (rw split at (running .lists))
 
     together : topTwo .m + topTwo .n ≤ mostComponents
     together = omega (arith, topTwo .together, running .unnamed, ready .valid .most)

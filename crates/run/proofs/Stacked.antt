@@ -30,8 +30,8 @@ pub record Topmost (k : ℕ) (x y : List Focal) (ls : List (List Focal)) : Type 
   pub stacked : Stacked others ls
   pub together : k ≡ m + n + others
 
-pub topmost : {k : ℕ} {x y : List Focal} {ls : List (List Focal)} → Stacked k (y ∷ x ∷ ls) → Topmost k x y ls
-topmost (more {m = n} g (more {m = m} {n = others} f s a) b) =
+pub topTwoOf : {k : ℕ} {x y : List Focal} {ls : List (List Focal)} → Stacked k (y ∷ x ∷ ls) → Topmost k x y ls
+topTwoOf (more {m = n} g (more {m = m} {n = others} f s a) b) =
     record { m = m; n = n; others = others; fits-left = f; fits-right = g; stacked = s; together = omega arith }
 
 -- A list over up to six components fits records.

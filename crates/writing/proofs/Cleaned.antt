@@ -59,17 +59,17 @@ module _ (c : Component) (l : c .count ≤ mostHeld) where
   fields-cleaned = rw (first-cleaned (c .count) (omega arith))
 
 -- Components that are held.
-abbrev Held : List Component → Type 0
-Held = Every (λ c. c .count ≤ mostHeld)
+abbrev AllHeld : List Component → Type 0
+AllHeld = Every (λ c. c .count ≤ mostHeld)
 
-any-cleaned : (f : Component → Bool) → ((c : Component) → c .count ≤ mostHeld → f (cleaned c) ≡ f c) → {cs : List Component} → Held cs → anyOf f (map cleaned cs) ≡ anyOf f cs
+any-cleaned : (f : Component → Bool) → ((c : Component) → c .count ≤ mostHeld → f (cleaned c) ≡ f c) → {cs : List Component} → AllHeld cs → anyOf f (map cleaned cs) ≡ anyOf f cs
 any-cleaned f h none = refl
 any-cleaned f h (more {x = c} l ls) = rw (h c l, any-cleaned f h ls)
 
-flaws-cleaned : {cs : List Component} → Held cs → flawsIn (map cleaned cs) ≡ flawsIn cs
+flaws-cleaned : {cs : List Component} → AllHeld cs → flawsIn (map cleaned cs) ≡ flawsIn cs
 flaws-cleaned h = rw (any-cleaned badTotal total-cleaned h, any-cleaned badIntervals intervals-cleaned h, any-cleaned badSum sum-cleaned h)
 
-blocks-cleaned : {cs : List Component} → Held cs → forEach (map cleaned cs) fieldsOf ≡ forEach cs fieldsOf
+blocks-cleaned : {cs : List Component} → AllHeld cs → forEach (map cleaned cs) fieldsOf ≡ forEach cs fieldsOf
 blocks-cleaned none = refl
 blocks-cleaned (more {x = c} l ls) = rw (fields-cleaned c l, blocks-cleaned ls)
 
@@ -77,7 +77,7 @@ counts-cleaned : (cs : List Component) → rule4 (map cleaned cs) ≡ rule4 cs
 unfolding rule4 cleaned
 counts-cleaned cs = any-map badCount cleaned cs
 
-held : (p : Plan) → rule4 (componentsOf p) ≡ false → Held (componentsOf p)
+held : (p : Plan) → rule4 (componentsOf p) ≡ false → AllHeld (componentsOf p)
 unfolding rule4
 held p e = every-failed badCount (componentsOf p) (λ c h. within 1 mostHeld (c .count) h .1) e
 
@@ -111,7 +111,7 @@ module _ (p : Plan) (n : p .count ≤ mostComponents) where
   rule4-cleaned : rule4 (componentsOf (cleanedPlan p)) ≡ rule4 (componentsOf p)
   rule4-cleaned = rw components-cleaned (counts-cleaned (componentsOf p))
 
-  module _ (h : Held (componentsOf p)) where
+  module _ (h : AllHeld (componentsOf p)) where
     pub rules-cleaned : rules (cleanedPlan p) ≡ rules p
     unfolding cleanedPlan
     rules-cleaned =
