@@ -37,7 +37,7 @@ pub record Passed (s : List ℕ) (allowance room : ℕ) : Type 0 where
   pub pairs : ℕ
   pub runs : evaluated s allowance ≡ completed stack pairs
 
--- k is the number of the first rule that is broken: of 1 to 12, each looking at everything before the next; then 13 or 14 at a join, as
+-- The number k is that of the first rule that is broken: of 1 to 12, each looking at everything before the next; then 13 or 14 at a join, as
 -- the evaluation looks for them.
 pub data Broken (s : List ℕ) (allowance room : ℕ) : ℕ → Type 0 where
   by-test : {k : ℕ} → First (callTests s room) k → Broken s allowance room k
@@ -81,11 +81,11 @@ module _ (s : List ℕ) (demand allowance : ℕ) (store : List ℕ) where
     pub list-positive : Every Positive (sheetList s)
     pub list-weight : (low high : ℕ) → weightAt low high (sheetList s) ≡ weightAt low high (sheetOutcomes s)
     pub list-weights : weights (sheetList s) ≡ answered .total
-    -- The weights of each sub-structure's list add to the product of the totals under it.
-    pub lists-weights : (t : Tree) → weights (listOf (components s) t) ≡ totalOf (components s) t
     -- Its shares are the answers, at every demand.
     pub list-belief : (d : ℕ) → belief d (sheetList s) ≡ answerAt d .belief
     pub list-plausibility : (d : ℕ) → plausibility d (sheetList s) ≡ answerAt d .plausibility
+    -- The weights of each sub-structure's list add to the product of the totals under it.
+    pub lists-weights : (t : Tree) → weights (listOf (components s) t) ≡ totalOf (components s) t
     -- The pairs are those of the joins of the one tree that the structure builds.
     pub tree : Tree
     pub built : trees (structure s) ≡ tree ∷ []

@@ -18,7 +18,7 @@ use Rattle.theory.specs.Structure.{named, joinsFindTwo}
 use Rattle.theory.specs.Order.{collect}
 use Rattle.theory.specs.Lists.{noComponent}
 use Rattle.theory.specs.Evaluation.{Evaluation, completed, refused, refuseIf, walkLists}
-use Rattle.theory.specs.Limits.{mostMasses, mostIntervals, mostComponents, recordBytes, listBytes, storeBytes}
+use Rattle.theory.specs.Limits.{mostMasses, mostIntervals, mostComponents, recordBytes, listBytes}
 use Rattle.theory.specs.declared.Component.{Component}
 use Rattle.theory.specs.declared.Join.{Join}
 use Rattle.theory.proofs.Every.{index-of-every}
@@ -90,7 +90,7 @@ module _ {p : Plan} {store₀ : List ℕ} (ready : Runnable p store₀) {allowan
         walks = refl;
       }
 
-  pub in-region : {store : List ℕ} {rest : List Entry} {st : Stack} → Running p allowance store₀ rest store st → st .free ≤ storeBytes
+  pub in-region : {store : List ℕ} {rest : List Entry} {st : Stack} → Running p allowance store₀ rest store st → st .free ≤ needed p
   in-region running = omega (arith, running .room, ready .valid .most)
 
   -- At the end the one list of the stack is what the walk leaves.
@@ -114,13 +114,12 @@ module _ {p : Plan} {store₀ : List ℕ} (ready : Runnable p store₀) {allowan
     fits : Fits 1 (collect (masses c))
     fits = fits-leaf c (of-component (ready .valid .inRange)) (omega (arith, of-component (ready .valid .totals), of-component (ready .valid .balanced)))
 
-    push-room : (st .depth < mostComponents) × (st .free + listBytes ≤ storeBytes)
+    push-room : (st .depth < mostComponents) × (st .free + listBytes ≤ needed p)
     push-room = omega (arith, running .height, running .unnamed, running .balance, running .room, ready .valid .most)
 
     pub pushable : Pushable c store st
     pushable = record {
       place = push-room .0;
-      start = in-region running;
       room = omega (arith, push-room, ready .enough, running .stored .same-length);
       count = of-component (ready .valid .counts) .1;
     }
@@ -157,7 +156,7 @@ module _ {p : Plan} {store₀ : List ℕ} (ready : Runnable p store₀) {allowan
     two-there : 2 ≤ st .depth
     two-there = finds-two (st .depth) (running .two) .0
 
-    join-room : (st .depth ≤ mostComponents) × (st .free + listBytes ≤ storeBytes)
+    join-room : (st .depth ≤ mostComponents) × (st .free + listBytes ≤ needed p)
     join-room = omega (arith, running .height, running .unnamed, running .balance, running .room, ready .valid .most)
 
     abbrev below : List (List Focal)
@@ -184,7 +183,6 @@ module _ {p : Plan} {store₀ : List ℕ} (ready : Runnable p store₀) {allowan
     applicable = record {
       two = two-there;
       place = join-room .0;
-      start = in-region running;
       allowed = running .allowed;
       joinable = record {
         first = operand 2 (omega arith) two-there;

@@ -8,7 +8,7 @@ use Rattle.theory.specs.Masses.{masses}
 use Rattle.theory.specs.Focal.{Focal}
 use Rattle.theory.specs.Order.{collect}
 use Rattle.theory.specs.Lists.{joinLists}
-use Rattle.theory.specs.Limits.{mostHeld, mostIntervals, mostComponents, recordBytes, listBytes, storeBytes}
+use Rattle.theory.specs.Limits.{mostHeld, mostIntervals, mostComponents, recordBytes, listBytes}
 use Rattle.theory.specs.declared.Component.{Component}
 use Rattle.theory.specs.declared.Join.{Join}
 use Rattle.records.specs.Store.{listIn, holdingFrom}
@@ -44,7 +44,6 @@ pushedStore c store st = holdingFrom store (st .free) (collect (masses c))
 -- It asks for a place on the stack, and for room for a list.
 pub record Pushable (c : Component) (store : List ℕ) (st : Stack) : Type 0 where
   pub place : st .depth < mostComponents
-  pub start : st .free ≤ storeBytes
   pub room : st .free + listBytes ≤ length store
   pub count : c .count ≤ mostHeld
 
@@ -84,6 +83,5 @@ joinStore op allowance store st =
 pub record Applicable (op : Join) (allowance : ℕ) (store : List ℕ) (st : Stack) : Type 0 where
   pub two : 2 ≤ st .depth
   pub place : st .depth ≤ mostComponents
-  pub start : st .free ≤ storeBytes
   pub allowed : st .pairs ≤ allowance
   pub joinable : Joinable op store (topStart st 2) (topCount st 2) (topStart st 1) (topCount st 1) (st .free)

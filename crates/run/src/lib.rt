@@ -1,7 +1,7 @@
 // The run of a plan in a store that the caller lends: its entries one after the other, on a stack of lists.
 ghost use mathlib.Core.Path.{_≡_};
-ghost use Prim.Native.Nat.{_≤_, _<_};
-ghost use Rattle.theory.specs.Limits.{mostComponents, mostIntervals, storeBytes};
+ghost use Prim.Native.Nat.{_+_, _*_, _^_, _<_};
+ghost use Rattle.theory.specs.Limits.{mostComponents, recordBytes};
 ghost use Rattle.run.specs.Stack.{emptyStack, withList, Pushable, pushed, pushedStore, Applicable, joinStep, joinStore};
 ghost use Rattle.run.specs.Run.{storeFor, needed, walked, ranOf, storeOf, Runnable};
 use joins::Joined;
@@ -54,7 +54,7 @@ fn empty_stack() -> Stack
 
 // The stack with a list of n records from byte `start` on as its topmost, at place d.
 fn with_list(stack: Stack, d: usize, start: usize, n: usize, pairs: u64) -> Stack
-    requires { ⌜ (d < mostComponents) × (n ≤ mostIntervals) × (start ≤ storeBytes) ⌝ }
+    requires { ⌜ (d < mostComponents) × (start + recordBytes * n < 2 ^ 64) ⌝ }
     ensures { λ r. ⌜ r ≡ withList stack d start n pairs ⌝ }
 {
     let mut q = stack;

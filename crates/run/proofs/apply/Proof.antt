@@ -51,7 +51,7 @@ counts : (c : tie.After-known-told) → (c .before .r .given .0 .0 ≡ length (l
 counts c = made-inv (list (begun c)) (c .before .r .given .0 .0) (sym (c .before .r .given .1) ∙ c .before .before .before .before .before .join-in-store .ensures .0)
 
 with-list-requires : tie.Need-with-list-requires
-with-list-requires c κs = let s = begun c in (omega (arith, s .pre .two, s .pre .place), omega (arith, counts c), s .pre .start)
+with-list-requires c κs = let s = begun c in (omega (arith, s .pre .two, s .pre .place), omega (arith, counts c, s .pre .joinable .room))
 
 returns-2 : tie.Need-returns-2
 returns-2 c =
