@@ -2,11 +2,11 @@
 use mathlib.Core.Path.{_≡_, refl, sym, ap, _∙_}
 use mathlib.Core.List.{List, [], _∷_, _++_}
 use Prim.Native.Nat.{ℕ, zero, suc, _+_, _*_, _-_, _/_, _%_, _^_, _≤_, _<_}
-use native.Mathlib.Nat.{pow-le-pow-right, pow-suc, div-one, div-div-eq-div-mul, mod-eq-of-lt, mod-one, add-mul, mul-assoc}
+use native.Mathlib.Nat.{add-zero, lt-of-lt-of-le, pow-le-pow-right, pow-suc, div-one, div-div-eq-div-mul, mod-eq-of-lt, mod-one, add-mul, mul-assoc}
 use native.Mathlib.Numerals.{add-one}
 use native.Mathlib.Omega.{arith}
 use lib.Arith.{digits-lt, digits-div, digits-mod, mod-mul}
-use lib.ListN.{length, take, drop, getD, set, take-append-drop, length-drop}
+use lib.ListN.{length, take, drop, getD, set, take-append-drop, length-take, length-drop}
 use lib.Seq.{drop-cons, take-suc, append-snoc, set-at, length-take-le, take-all, getD-drop}
 use Rattle.numbers.specs.Numbers.{Bytes, bigEndian, onto, numberAt}
 
@@ -45,6 +45,17 @@ number-next s a n h =
     let l : n < length (drop a s) = rw length-drop (omega arith) in
     rw (add-one, take-suc (drop a s) n 0, onto-snoc, getD-drop)
 
+-- A number in m bytes and n more is that in the m bytes, then that in the n.
+pub number-split : (s : List ℕ) (a m n : ℕ) → a + m + n ≤ length s → numberAt s a (m + n) ≡ numberAt s a m * 256 ^ n + numberAt s (a + m) n
+unfolding onto
+number-split s a m zero h = rw add-zero (omega arith)
+number-split s a m (suc n) h =
+    let e : m + suc n ≡ m + n + 1 = omega arith in
+    let d : a + (m + n) ≡ a + m + n = omega arith in
+    let p : numberAt s (a + m) (suc n) ≡ numberAt s (a + m) n * 256 + getD s (a + m + n) 0 =
+    ap (numberAt s (a + m)) (sym (add-one n)) ∙ number-next s (a + m) n (omega arith) in
+    rw (e, number-next s a (m + n) (omega arith), d, number-split s a m n (omega arith), p, pow-suc, add-mul, mul-assoc) (omega arith)
+
 pub bigEndian-next : (m v : ℕ) → bigEndian (m + 1) v ≡ (v / 256 ^ m) % 256 ∷ bigEndian m v
 unfolding bigEndian
 bigEndian-next m v = rw add-one
@@ -78,6 +89,20 @@ bytes-take zero s h i = omega arith
 bytes-take (suc n) [] h i = omega arith
 bytes-take (suc n) (x ∷ xs) h zero = h zero
 bytes-take (suc n) (x ∷ xs) h (suc i) = bytes-take n xs (λ j. h (suc j)) i
+
+-- A number in n bytes is below 256 to the n.
+onto-lt : (acc i : ℕ) (bs : List ℕ) → acc < 256 ^ i → Bytes bs → onto acc bs < 256 ^ (i + length bs)
+unfolding onto
+onto-lt acc i [] h b = rw add-zero h
+onto-lt acc i (x ∷ bs) h b =
+    let e : i + suc (length bs) ≡ i + 1 + length bs = omega arith in
+    rw e (onto-lt (acc * 256 + x) (i + 1) bs (grow acc x i h (b 0)) (λ j. b (suc j)))
+
+pub number-lt : (s : List ℕ) (a n : ℕ) → Bytes s → numberAt s a n < 256 ^ n
+number-lt s a n b =
+    let bs : List ℕ = take n (drop a s) in
+    let l : 0 + length bs ≤ n = simp length-take (omega arith) in
+    lt-of-lt-of-le (onto-lt 0 0 bs (omega arith) (bytes-take n (drop a s) (bytes-drop a s b))) (pow-le-pow-right {n = 256} (omega arith) l)
 
 onto-div : (acc : ℕ) (bs : List ℕ) → Bytes bs → onto acc bs / 256 ^ length bs ≡ acc
 unfolding onto

@@ -9,28 +9,23 @@ use lib.ListN.{length, take, drop, getD, length-append, length-drop, take-append
 use lib.Seq.{drop-cons, drop-drop, take-add, length-take-le, take-at, drop-at, take-append-le, take-take}
 use Rattle.theory.specs.Sums.{Every}
 use Rattle.theory.specs.Focal.{Focal, weights, noFocal}
-use Rattle.numbers.specs.Numbers.{bigEndian, onto, numberAt, Bytes}
-use Rattle.numbers.proofs.Numbers.{bytes-drop, bytes-take, bigEndian-onto, read-back}
+use Rattle.numbers.specs.Numbers.{bigEndian, numberAt, Bytes}
+use Rattle.numbers.proofs.Numbers.{number-split, number-lt, bytes-drop, bytes-take, bigEndian-onto, read-back}
 use Rattle.records.specs.Records.{keyOf, keyed, bytesOf, encode, headRecord, recordAt, records, withWeight, Under, speedLimit}
 use Rattle.records.specs.Store.{replaced, holding}
 
 -- ---- a record in bytes
 
-key-bytes : (t : List ℕ) → 4 ≤ length t → numberAt t 0 4 ≡ numberAt t 0 2 * 65536 + numberAt t 2 2
-unfolding onto
-key-bytes [] h = absurd (not-suc-le-zero h)
-key-bytes (a ∷ []) h = absurd (not-suc-le-zero (le-of-suc-le-suc h))
-key-bytes (a ∷ b ∷ []) h = absurd (not-suc-le-zero (le-of-suc-le-suc (le-of-suc-le-suc h)))
-key-bytes (a ∷ b ∷ c ∷ []) h = absurd (not-suc-le-zero (le-of-suc-le-suc (le-of-suc-le-suc (le-of-suc-le-suc h))))
-key-bytes (a ∷ b ∷ c ∷ d ∷ t) h = omega arith
-
 pub key-is : (s : List ℕ) (k : ℕ) → k + 4 ≤ length s → numberAt s k 4 ≡ keyOf (headRecord (drop k s))
 unfolding headRecord
-key-is s k h = key-bytes (drop k s) (rw length-drop (omega arith))
+key-is s k h = number-split (drop k s) 0 2 2 (rw length-drop (omega arith))
 
-pub weight-is : (s : List ℕ) (k : ℕ) → numberAt s (k + 4) 8 ≡ headRecord (drop k s) .weight
+pub weight-is : (s : List ℕ) (k : ℕ) → k + 12 ≤ length s → numberAt s (k + 4) 4 * 4294967296 + numberAt s (k + 8) 4 ≡ headRecord (drop k s) .weight
 unfolding headRecord
-weight-is s k = rw drop-drop
+weight-is s k h =
+    let e : k + 4 + 4 ≡ k + 8 = omega arith in
+    let whole : numberAt s (k + 4) 8 ≡ numberAt (drop k s) 4 8 = rw drop-drop in
+    sym (rw e at (number-split s (k + 4) 4 4 (omega arith))) ∙ whole
 
 bytes-key : (key : ℕ) → bigEndian 4 key ≡ bigEndian 2 (key / speedLimit) ++ bigEndian 2 (key % speedLimit)
 unfolding bigEndian
@@ -157,15 +152,9 @@ records-encode t Every.none h = refl
 records-encode t (Every.more {x = f} {xs = fs} u r) h =
     rw append-assoc (rw (head-back f (encode fs ++ t) u (omega arith), drop-back f (encode fs ++ t), records-encode t r (omega arith)))
 
-two-lt : (t : List ℕ) → Bytes t → onto 0 (take 2 t) < speedLimit
-unfolding onto
-two-lt [] h = omega arith
-two-lt (a ∷ []) h = omega (arith, h 0)
-two-lt (a ∷ b ∷ t) h = omega (arith, h 0, h 1)
-
 head-under : (s : List ℕ) → Bytes s → Under speedLimit (headRecord s)
 unfolding headRecord
-head-under s h = (two-lt s h, two-lt (drop 2 s) (bytes-drop 2 s h))
+head-under s h = (number-lt s 0 2 h, number-lt s 2 2 h)
 
 pub record-under : (s : List ℕ) (i : ℕ) → Bytes s → Under speedLimit (recordAt s i)
 record-under s i h = head-under (drop (12 * i) s) (bytes-drop (12 * i) s h)

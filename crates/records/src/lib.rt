@@ -38,12 +38,14 @@ pub fn key_at(s: &[u8], i: usize) -> u64
     numbers::read_number(s, RECORD_BYTES * i, 4)
 }
 
-// The weight of record i.
+// The weight of record i, in two halves: each is one load then.
 pub fn weight_at(s: &[u8], i: usize) -> u64
     requires { ⌜ recordBytes * i + recordBytes ≤ length (now s) ⌝ }
     ensures { λ r. ⌜ r ≡ recordAt (now (s .entry)) i .weight ⌝ }
 {
-    numbers::read_number(s, RECORD_BYTES * i + 4, 8)
+    let high = numbers::read_number(s, RECORD_BYTES * i + 4, 4);
+    let low = numbers::read_number(s, RECORD_BYTES * i + 8, 4);
+    high * 4294967296 + low
 }
 
 // Writes record i.
