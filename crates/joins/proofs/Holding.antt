@@ -18,12 +18,21 @@ use Rattle.records.specs.Insertion.{insertionOf, insertOrStay, Insertable}
 use Rattle.records.proofs.Records.{length-records, holds, records-encode, records-under}
 use Rattle.records.proofs.Store.{length-holding, holding-over}
 use Rattle.records.proofs.Inserting.{stay-fits, stay-full}
-pub use Rattle.joins.specs.Held.{Held}
 
 -- ---- one interval more
 
 pub insert-under : (f : Focal) {l : List Focal} → Under speedLimit f → Every (Under speedLimit) l → Every (Under speedLimit) (inserted f l)
 insert-under f h u = every-insert (Under speedLimit) (λ g k p q. q) f h u
+
+-- The first m records of `out` are the list l, and the other bytes are those of out₀.
+pub record Held (out₀ out : List ℕ) (m : ℕ) (l : List Focal) : Type 0 where
+  pub bytes : out ≡ holding out₀ l
+  pub count : m ≡ length l
+  pub room : length l ≤ mostIntervals
+  pub len : listBytes ≤ length out₀
+  pub order : InOrder l
+  pub under : Every (Under speedLimit) l
+  pub sum : weights l < 2 ^ 64
 
 pub held : (out : List ℕ) (m w : ℕ) → Bytes out → Insertable out m w → Held out out m (records m out)
 held out m w b i =

@@ -13,7 +13,6 @@ ghost use Rattle.theory.specs.Limits.{mostHeld, recordBytes, listBytes};
 ghost use Rattle.records.specs.Records.{records, Under, speedLimit, Storable, keyed};
 ghost use Rattle.records.specs.Store.{copiedFrom, holding, holdingFrom};
 ghost use Rattle.records.specs.Insertion.{Insertable};
-ghost use Rattle.joins.specs.Held.{Held};
 ghost use Rattle.joins.specs.Filling.{fill};
 ghost use Rattle.joins.specs.Joins.{joinedAs, joinNumber, joinLength, numberOfJoin, lengthOfJoin, rowOf, filledRow, joinIn, joinedStore, Joinable};
 use records::SPEED_LIMIT;
@@ -164,7 +163,9 @@ pub fn join_in_store(
 // Builds the list of what a component lists at the front of out.
 fn put_listed(c: Component, out: &mut [u8]) -> usize
     requires { ⌜ (c .count ≤ mostHeld) × (listBytes ≤ length (now out)) ⌝ }
-    ensures { λ r. ⌜ Held (now (out .entry)) (now (out .exit)) r (collect (listed c)) ⌝ }
+    ensures { λ r. ⌜ r ≡ length (collect (listed c)) ⌝ }
+    ensures { λ _. ⌜ now (out .exit) ≡ holding (now (out .entry)) (collect (listed c)) ⌝ }
+    ensures { λ _. ⌜ Storable (collect (listed c)) ⌝ }
 {
     let lows = c.lows;
     let highs = c.highs;

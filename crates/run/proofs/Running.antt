@@ -90,8 +90,8 @@ module _ {p : Plan} {store₀ : List ℕ} (ready : Runnable p store₀) {allowan
         walks = refl;
       }
 
-  pub in-region : {store : List ℕ} {rest : List Entry} {st : Stack} → Running p allowance store₀ rest store st → st .free ≤ needed p
-  in-region running = omega (arith, running .room, ready .valid .most)
+  pub free-within : {store : List ℕ} {rest : List Entry} {st : Stack} → Running p allowance store₀ rest store st → st .free ≤ needed p
+  free-within running = omega (arith, running .room, ready .valid .most)
 
   -- At the end the one list of the stack is what the walk leaves.
   pub finished : {store : List ℕ} {st : Stack} → Running p allowance store₀ [] store st

@@ -88,7 +88,8 @@ returns : tie.Need-returns Inv-loop μ-loop
 returns c =
     let s = c .before .before .before .before .before .before in
     let e : c .before .loop .i ≡ s .args .c .count = omega arith in
-    rw e at (c .before .loop .inv .1 .1)
+    let h : Held (s .args .out .now) (c .before .loop .out) (c .before .loop .m) (collected (s .args .c) (s .args .c .count)) = rw e at (c .before .loop .inv .1 .1) in
+    (h .count, (h .bytes, (h .under, h .sum)))
 
 pub put-listed-spec : {M : Type 1} → statement M
 put-listed-spec =

@@ -20,7 +20,7 @@ use Rattle.run.specs.Stack.{listAt, joinStep, joinStore}
 use Rattle.run.specs.Run.{needed, walked}
 use Rattle.run.proofs.Entries.{entries-from}
 use Rattle.run.proofs.Placing.{clears, fills}
-use Rattle.run.proofs.Running.{Running, starting, finished, in-region, component-below, pushable, push-next, applicable, join-out, join-later}
+use Rattle.run.proofs.Running.{Running, starting, finished, free-within, component-below, pushable, push-next, applicable, join-out, join-later}
 use borrow.Author.Needs.{needs}
 use Rattle.run.proofs.run_plan.Statement.{statement}
 use Rattle.run.proofs.run_plan.Tie as tie
@@ -130,7 +130,7 @@ settle-requires c κs =
     let b = c .before .before .before in
     let ready = begin b .pre in
     let stored = ended b .stored in
-    (omega (arith, stored .apart 0 (omega (arith, finished ready (ended b) .0)), in-region ready (ended b)), omega (arith, stored .same-length, ready .enough))
+    (omega (arith, stored .apart 0 (omega (arith, finished ready (ended b) .0)), free-within ready (ended b)), omega (arith, stored .same-length, ready .enough))
 
 returns-2 : tie.Need-returns-2 Inv-loop μ-loop
 returns-2 c =
