@@ -9,12 +9,12 @@ topSpeed = 4095
 abbrev pub mostHeld : ℕ
 mostHeld = 8
 
--- The most focal elements of a component.
-abbrev pub mostMasses : ℕ
-mostMasses = mostHeld
-
 abbrev pub mostTotal : ℕ
 mostTotal = 1000
+
+-- The most focal elements of a component's mass assignment.
+abbrev pub mostMasses : ℕ
+mostMasses = mostHeld
 
 -- The most components of a drive (n).
 abbrev pub mostComponents : ℕ
