@@ -1,10 +1,14 @@
 -- Laws of a row: its length, its places, and that it depends on the used places alone. Assumes nothing.
 use mathlib.Core.Path.{_≡_, refl, _∙_}
-use Prim.Native.Nat.{ℕ, zero, suc, _≤_, _<_}
+use mathlib.Core.List.{List}
+use Prim.Native.Nat.{ℕ, zero, suc, _+_, _≤_, _<_}
+use native.Mathlib.Numerals.{add-one}
 use native.Mathlib.Decide.{ℕ-discrete}
 use native.Mathlib.Omega.{arith}
-use lib.ListN.{length, getD, length-set, length-replicate}
+use lib.ListN.{length, getD, set, length-set, length-replicate}
 use lib.Seq.{getD-set-same, getD-set-other}
+use Rattle.theory.specs.Sums.{Every}
+use Rattle.theory.proofs.Every.{every-replicate, every-set}
 use Rattle.block.specs.Rows.{row}
 
 module _ {A : Type 0} (d : A) (m : ℕ) where
@@ -17,6 +21,17 @@ module _ {A : Type 0} (d : A) (m : ℕ) where
   unfolding row
   row-ext f g zero h = refl
   row-ext f g (suc k) h = rw (row-ext f g k (λ i p. h i (omega arith)), h k (omega arith))
+
+  -- One place more.
+  pub row-next : (f : ℕ → A) (xs : List A) (k : ℕ) (x : A) → xs ≡ row d m f k → x ≡ f k → set xs k x ≡ row d m f (k + 1)
+  unfolding row
+  row-next f xs k x e h = rw (add-one, e, h)
+
+  -- What holds of d and of every f i holds of all places.
+  pub row-every : {P : A → Type 0} (f : ℕ → A) (k : ℕ) → P d → ((i : ℕ) → P (f i)) → Every P (row d m f k)
+  unfolding row
+  row-every f zero h g = every-replicate d m h
+  row-every f (suc k) h g = every-set (row-every f k h g) k (g k)
 
   -- A used place.
   pub row-used : (e : A) (f : ℕ → A) (k i : ℕ) → i < k → k ≤ m → getD (row d m f k) i e ≡ f i

@@ -1,15 +1,15 @@
 -- The call for C hosts, by whether the answer buffer is too short: the statement of specs/Call.antt. Assumes nothing.
-use Prim.Native.Nat.{ℕ, _+_, _^_, _≤_, _<_}
-use mathlib.Core.Path.{_≡_, refl, sym, ap, _∙_}
+use Prim.Native.Nat.{ℕ, _≤_, _<_}
+use mathlib.Core.Path.{_≡_, refl, ap, _∙_}
 use mathlib.Core.Bool.{Bool, true, false, cond}
 use mathlib.Core.List.{List, [], _++_, append-assoc}
 use native.Mathlib.Omega.{arith}
 use lib.Dec.{ltb}
-use lib.ListN.{length, take, drop, length-append}
-use lib.Seq.{take-at, drop-at, drop-append-add}
+use lib.ListN.{length, drop, length-append}
+use lib.Seq.{drop-at}
 use borrow.Author.Tests.{lt-ltb, le-ltb}
-use Rattle.numbers.specs.Numbers.{bigEndian, onto, numberAt}
-use Rattle.numbers.proofs.Numbers.{read-back}
+use Rattle.numbers.specs.Numbers.{bigEndian}
+use Rattle.numbers.proofs.Numbers.{length-bigEndian, read-front, read-behind}
 use Rattle.plan.specs.Tests.{here}
 use Rattle.evaluate.specs.declared.Answer.{Answer}
 use Rattle.evaluate.specs.Answer.{answer}
@@ -21,21 +21,9 @@ use Rattle.drive.specs.Call.{answerBytes, encodeAnswer, numberReturned, 
 
 -- ---- the bytes of an answer
 
-pub eight-bytes : (v : ℕ) → length (bigEndian 8 v) ≡ 8
-unfolding bigEndian
-eight-bytes v = refl
-
 length-answer : (a : Answer) → length (encodeAnswer a) ≡ answerBytes
 unfolding encodeAnswer
-length-answer a = simp (length-append, eight-bytes)
-
--- A number at the front is read back, and so is what stands behind it.
-read-front : (v : ℕ) (s : List ℕ) → v < 2 ^ 64 → numberAt (bigEndian 8 v ++ s) 0 8 ≡ v
-read-front v s h = ap (onto 0) (take-at (bigEndian 8 v) s 8 (eight-bytes v)) ∙ read-back 8 v h
-
-read-behind : (v : ℕ) (s : List ℕ) (k : ℕ) → numberAt (bigEndian 8 v ++ s) (8 + k) 8 ≡ numberAt s k 8
-read-behind v s k =
-    ap (λ (t : List ℕ). onto 0 (take 8 t)) (ap (λ n. drop (n + k) (bigEndian 8 v ++ s)) (sym (eight-bytes v)) ∙ drop-append-add (bigEndian 8 v) s k)
+length-answer a = simp (length-append, length-bigEndian)
 
 -- ---- the two ways
 
@@ -82,15 +70,15 @@ module _ (sheet : List ℕ) (demand allowance : ℕ) (list buffer : List ℕ) wh
         record {
           number-is = way .0;
           list-is = way .1;
-          total-read = rw all (read-front (a .total) b2 (fits .total));
-          belief-read = rw all (read-behind (a .total) b2 0 ∙ read-front (a .belief) b3 (fits .belief));
-          plausibility-read = rw all (read-behind (a .total) b2 8 ∙ (read-behind (a .belief) b3 0 ∙ read-front (a .plausibility) b4 (fits .plausibility)));
+          total-read = rw all (read-front 8 (a .total) b2 (fits .total));
+          belief-read = rw all (read-behind 8 (a .total) b2 0 8 ∙ read-front 8 (a .belief) b3 (fits .belief));
+          plausibility-read = rw all (read-behind 8 (a .total) b2 8 8 ∙ (read-behind 8 (a .belief) b3 0 8 ∙ read-front 8 (a .plausibility) b4 (fits .plausibility)));
           pairs-read = λ k.
-              rw all (read-behind (a .total) b2 16 ∙ (read-behind (a .belief) b3 8 ∙ (read-behind (a .plausibility) b4 0
-              ∙ read-front (a .pairs) b5 (fits .pairs k))));
+              rw all (read-behind 8 (a .total) b2 16 8 ∙ (read-behind 8 (a .belief) b3 8 8 ∙ (read-behind 8 (a .plausibility) b4 0 8
+              ∙ read-front 8 (a .pairs) b5 (fits .pairs k))));
           intervals-read =
-              rw all (read-behind (a .total) b2 24 ∙ (read-behind (a .belief) b3 16 ∙ (read-behind (a .plausibility) b4 8
-              ∙ (read-behind (a .pairs) b5 0 ∙ read-front (a .intervals) (drop answerBytes buffer) (fits .intervals)))));
+              rw all (read-behind 8 (a .total) b2 24 8 ∙ (read-behind 8 (a .belief) b3 16 8 ∙ (read-behind 8 (a .plausibility) b4 8 8
+              ∙ (read-behind 8 (a .pairs) b5 0 8 ∙ read-front 8 (a .intervals) (drop answerBytes buffer) (fits .intervals)))));
           later-kept = ap (drop answerBytes) (way .2) ∙ drop-at (encodeAnswer a) (drop answerBytes buffer) answerBytes (length-answer a);
         };
   }

@@ -1,2 +1,6 @@
--- What is proved of the call for C hosts.
+-- What is proved of the calls for C hosts.
 pub mod Call
+pub mod Fits
+pub mod Writer
+pub mod Reader
+pub mod RoundTrips

@@ -1,2 +1,3 @@
--- What C hosts link: the number that it returns, and each buffer afterwards.
+-- What C hosts link: the numbers that are returned, and each buffer afterwards.
 pub mod Call
+pub mod Sheets

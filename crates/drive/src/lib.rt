@@ -1,13 +1,17 @@
-// What makers link: the call on numbers and byte slices, and nothing else.
+// What makers link: the call, the writer and the reader on numbers and byte slices, and nothing else. The header host/drive.h is the
+// manual.
 ghost use mathlib.Core.Path.{_≡_};
 ghost use mathlib.Core.List.{_++_};
 ghost use Prim.Native.Nat.{_≤_};
 ghost use lib.ListN.{length, drop};
 ghost use Rattle.drive.specs.Call.{answerBytes, encodeAnswer, numberReturned, listAfter, answerAfter};
+ghost use Rattle.drive.specs.Sheets.{writeNumber, sheetAfter, lengthAfter, readNumber, planAfter};
 use evaluate::Answer;
 
-// The bytes that an answer takes.
+// The bytes that an answer takes, and those of the length that the writer answers.
 const ANSWER_BYTES: usize = 40;
+
+const LENGTH_BYTES: usize = 8;
 
 // Writes an answer at the front of a buffer that holds it.
 fn put_answer(a: Answer, buffer: &mut [u8])
@@ -21,8 +25,7 @@ fn put_answer(a: Answer, buffer: &mut [u8])
     numbers::write_number(buffer, 32, 8, a.intervals);
 }
 
-// Returns the number. The answer goes to the front of `answer`, the drive's list to the front of `list`; the header host/drive.h is the
-// manual.
+// Returns the number. The answer goes to the front of `answer`, the drive's list to the front of `list`.
 #[no_mangle]
 pub extern "C" fn drive_bounds(
     sheet: &[u8],
@@ -42,4 +45,38 @@ pub extern "C" fn drive_bounds(
     let a = evaluate::bounds(sheet, demand, allowance, list);
     put_answer(a, answer);
     a.number as u32
+}
+
+// Returns the number. The sheet of the plan goes to the front of `sheet`, its length to the front of `answer`.
+#[no_mangle]
+pub extern "C" fn drive_write_sheet(plan: &[u8], sheet: &mut [u8], answer: &mut [u8]) -> u32
+    ensures { λ r. ⌜ r ≡ writeNumber (now (plan .entry)) (now (sheet .entry)) (now (answer .entry)) ⌝ }
+    ensures { λ _. ⌜ now (sheet .exit) ≡ sheetAfter (now (plan .entry)) (now (sheet .entry)) (now (answer .entry)) ⌝ }
+    ensures { λ _. ⌜ now (answer .exit) ≡ lengthAfter (now (plan .entry)) (now (sheet .entry)) (now (answer .entry)) ⌝ }
+{
+    if plan.len() < wire::PLAN_BYTES {
+        return 12;
+    }
+    let p = wire::decode_plan(plan);
+    if answer.len() < LENGTH_BYTES {
+        let number = writing::plan_number(p);
+        return plan::first(12, number == 0, number) as u32;
+    }
+    let w = writing::write_sheet(p, sheet);
+    numbers::write_number(answer, 0, LENGTH_BYTES, w.length as u64);
+    w.number as u32
+}
+
+// Returns the number. The plan of the sheet goes to the front of `plan`.
+#[no_mangle]
+pub extern "C" fn drive_read_sheet(sheet: &[u8], plan: &mut [u8]) -> u32
+    ensures { λ r. ⌜ r ≡ readNumber (now (sheet .entry)) (now (plan .entry)) ⌝ }
+    ensures { λ _. ⌜ now (plan .exit) ≡ planAfter (now (sheet .entry)) (now (plan .entry)) ⌝ }
+{
+    let r = reading::read_sheet(sheet);
+    if plan.len() < wire::PLAN_BYTES {
+        return plan::first(12, r.number == 0, r.number) as u32;
+    }
+    wire::encode_plan(plan, r.plan);
+    r.number as u32
 }

@@ -23,7 +23,7 @@ use Rattle.plan.specs.Tests.{Unbroken, First}
 use Rattle.plan.specs.Plan.{cleanedPlan}
 use Rattle.reading.specs.Reading.{readOf}
 use Rattle.writing.specs.declared.Written.{Written}
-use Rattle.writing.specs.Writing.{planTests, writtenOf, bytesAfter, IgnoresUnused}
+use Rattle.writing.specs.Writing.{writerTests, writtenOf, bytesAfter, IgnoresUnused}
 use Rattle.records.specs.Store.{settled}
 use Rattle.run.specs.Run.{needed, cleared}
 use Rattle.evaluate.specs.declared.Answer.{Answer}
@@ -110,8 +110,8 @@ module _ (p : Plan) (buffer : List ℕ) where
   result = writtenOf p (length buffer)
 
   pub record Writer : Type 0 where
-    pub accepted : (result .number ≡ 0) ↔ Every Unbroken (planTests p (length buffer))
-    pub refused-by : (k : ℕ) → 0 < k → (result .number ≡ k) ↔ First (planTests p (length buffer)) k
+    pub accepted : (result .number ≡ 0) ↔ Every Unbroken (writerTests p (length buffer))
+    pub refused-by : (k : ℕ) → 0 < k → (result .number ≡ k) ↔ First (writerTests p (length buffer)) k
     pub nothing-written : (k : ℕ) → 0 < k → result .number ≡ k → (result .length ≡ 0) × (bytesAfter p buffer ≡ buffer)
     pub rest-kept : result .number ≡ 0 → drop (result .length) (bytesAfter p buffer) ≡ drop (result .length) buffer
     pub longest : result .number ≡ 0 → result .length ≤ 224

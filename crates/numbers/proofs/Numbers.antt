@@ -1,13 +1,13 @@
--- Laws of numbers in bytes: one step along a list, and numbers there and back. Assumes nothing.
+-- Laws of numbers in bytes: one step along a list, bytes put in one after the other, and numbers there and back. Assumes nothing.
 use mathlib.Core.Path.{_≡_, refl, sym, ap, _∙_}
-use mathlib.Core.List.{List, [], _∷_, _++_}
+use mathlib.Core.List.{List, [], _∷_, _++_, append-assoc}
 use Prim.Native.Nat.{ℕ, zero, suc, _+_, _*_, _-_, _/_, _%_, _^_, _≤_, _<_}
 use native.Mathlib.Nat.{add-zero, lt-of-lt-of-le, pow-le-pow-right, pow-suc, div-one, div-div-eq-div-mul, mod-eq-of-lt, mod-one, add-mul, mul-assoc}
 use native.Mathlib.Numerals.{add-one}
 use native.Mathlib.Omega.{arith}
 use lib.Arith.{digits-lt, digits-div, digits-mod, mod-mul}
-use lib.ListN.{length, take, drop, getD, set, take-append-drop, length-take, length-drop}
-use lib.Seq.{drop-cons, take-suc, append-snoc, set-at, length-take-le, take-all, getD-drop}
+use lib.ListN.{length, take, drop, getD, set, take-append-drop, length-take, length-drop, length-append}
+use lib.Seq.{drop-cons, take-suc, append-snoc, set-at, length-take-le, take-all, take-at, getD-drop, drop-drop, drop-append-add}
 use Rattle.numbers.specs.Numbers.{Bytes, bigEndian, onto, numberAt}
 
 -- ---- one step along a list
@@ -24,6 +24,34 @@ pub back : (s t : List ℕ) (k b : ℕ) → k < length s → set (take (k + 1) s
 back s t k b h =
     let hl : k ≤ length s = omega arith in
     rw (add-one, take-suc s k 0, append-snoc) (set-at (take k s) (getD s k 0) t b k (length-take-le k s hl))
+
+-- ---- bytes put in one after the other
+
+-- e is s with xs put in from place k up to place m.
+pub record Placed (s : List ℕ) (k m : ℕ) (xs e : List ℕ) : Type 0 where
+  pub within : k ≤ length s
+  pub up-to : m ≡ k + length xs
+  pub is : e ≡ take k s ++ (xs ++ drop m s)
+
+pub placed-none : (s : List ℕ) (k : ℕ) → k ≤ length s → Placed s k k [] s
+placed-none s k h = record { within = h; up-to = sym (add-zero k); is = sym (take-append-drop k s) }
+
+-- What is then put in at a, where xs end, up to n, with no change of length, stands behind xs.
+pub placed-next : {s t e xs : List ℕ} {k m : ℕ} (a n : ℕ) (ys : List ℕ) → Placed s k m xs t → a ≡ m → a ≤ n → n ≤ length t → length e ≡ length t
+    → e ≡ take a t ++ (ys ++ drop n t) → Placed s k n (xs ++ ys) e
+placed-next {s} {t} {e} {xs} {k} {m} a n ys p f h g u q =
+    let lengths : length e ≡ length (take a t ++ (ys ++ drop n t)) = ap length q in
+    let room : n ≡ a + length ys = omega (arith, simp (length-append, length-take, length-drop) at lengths) in
+    let front : List ℕ = take k s ++ xs in
+    let l : length front ≡ a = rw (length-append, length-take-le k s (p .within)) (omega (arith, p .up-to)) in
+    let t-is : t ≡ front ++ drop a s = rw f (p .is ∙ sym (append-assoc (take k s) xs (drop m s))) in
+    let before : take a t ≡ front = ap (take a) t-is ∙ take-at front (drop a s) a l in
+    let behind : drop n t ≡ drop n s = rw (t-is, room, ← l, drop-append-add, drop-drop) in
+    record {
+      within = p .within;
+      up-to = omega (arith, p .up-to, length-append xs ys);
+      is = q ∙ (λ i. before i ++ (ys ++ behind i)) ∙ simp append-assoc;
+    }
 
 -- ---- numbers in bytes
 
@@ -55,6 +83,11 @@ number-split s a m (suc n) h =
     let p : numberAt s (a + m) (suc n) ≡ numberAt s (a + m) n * 256 + getD s (a + m + n) 0 =
     ap (numberAt s (a + m)) (sym (add-one n)) ∙ number-next s (a + m) n (omega arith) in
     rw (e, number-next s a (m + n) (omega arith), d, number-split s a m n (omega arith), p, pow-suc, add-mul, mul-assoc) (omega arith)
+
+pub length-bigEndian : (n v : ℕ) → length (bigEndian n v) ≡ n
+unfolding bigEndian
+length-bigEndian zero v = refl
+length-bigEndian (suc n) v = ap suc (length-bigEndian n v)
 
 pub bigEndian-next : (m v : ℕ) → bigEndian (m + 1) v ≡ (v / 256 ^ m) % 256 ∷ bigEndian m v
 unfolding bigEndian
@@ -132,3 +165,11 @@ onto-bigEndian acc (suc n) v =
 
 pub read-back : (n v : ℕ) → v < 256 ^ n → onto 0 (bigEndian n v) ≡ v
 read-back n v h = onto-bigEndian 0 n v ∙ rw (mod-eq-of-lt h) (omega arith)
+
+-- A number at the front is read back, and so is what stands behind it.
+pub read-front : (n v : ℕ) (s : List ℕ) → v < 256 ^ n → numberAt (bigEndian n v ++ s) 0 n ≡ v
+read-front n v s h = ap (onto 0) (take-at (bigEndian n v) s n (length-bigEndian n v)) ∙ read-back n v h
+
+pub read-behind : (n v : ℕ) (s : List ℕ) (k m : ℕ) → numberAt (bigEndian n v ++ s) (n + k) m ≡ numberAt s k m
+read-behind n v s k m =
+    ap (λ (t : List ℕ). onto 0 (take m t)) (ap (λ j. drop (j + k) (bigEndian n v ++ s)) (sym (length-bigEndian n v)) ∙ drop-append-add (bigEndian n v) s k)

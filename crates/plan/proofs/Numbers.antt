@@ -1,10 +1,13 @@
 -- The number that a list of tests answers: that of the first broken one, or 0 where none is. Assumes nothing.
 use Prim.Native.Nat.{ℕ, _≤_, _<_}
-use mathlib.Core.Path.{_≡_, refl}
+use mathlib.Core.Path.{_≡_, refl, sym}
 use mathlib.Core.Logic.{_↔_}
 use mathlib.Core.Bool.{Bool, true, false, cond}
 use mathlib.Core.List.{List, [], _∷_, _++_}
+use native.Mathlib.Decide.{ℕ-discrete}
 use native.Mathlib.Omega.{arith}
+use lib.Dec.{eqb}
+use borrow.Author.Tests.{eq-eqb, ne-eqb}
 use Rattle.theory.specs.Sums.{Every, none, more}
 use Rattle.theory.proofs.Every.{every-map}
 use Rattle.plan.specs.Tests.{Test, firstBroken, outside, anyOf, Unbroken, First, here, later}
@@ -79,3 +82,11 @@ first-found (t ∷ ts) us h = go (t .broken) h (first-found ts us)
 pub first-none : {ts : List Test} (us : List Test) → Every Unbroken ts → firstBroken (ts ++ us) ≡ firstBroken us
 first-none us none = refl
 first-none us (more e es) = rw e (first-none us es)
+
+-- Both in one: the second list decides exactly where the first has no number.
+pub first-then : (n : ℕ) (ts us : List Test) → anyOf (λ t. outside 1 n (t .number)) ts ≡ false
+    → cond (eqb (firstBroken ts) 0) (firstBroken us) (firstBroken ts) ≡ firstBroken (ts ++ us)
+first-then n ts us e = elim (ℕ-discrete (firstBroken ts) 0) [
+  | yes z ↦ rw (eq-eqb (firstBroken ts) 0 z) (sym (first-none us (no-number n ts e z)))
+  | no z ↦ rw (ne-eqb (firstBroken ts) 0 z) (sym (first-found ts us z))
+]

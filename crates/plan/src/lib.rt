@@ -21,7 +21,7 @@ use theory::Join;
 pub struct Plan {
     pub components: [Component; theory::MOST_COMPONENTS],
     pub count: usize,
-    pub entries: [u8; theory::MOST_ENTRIES],
+    pub entries: [u16; theory::MOST_ENTRIES],
 }
 
 // The edition of a sheet, and the widths of its fields outside the blocks: specs/Sheet.antt has them with document 01's words.
@@ -38,14 +38,14 @@ pub const LENGTH_BITS: usize = 8;
 pub const ENTRY_BITS: usize = 4;
 
 // The codes of the joins.
-pub const SERIES_CODE: u8 = 8;
+pub const SERIES_CODE: u16 = 8;
 
-pub const SHARED_CODE: u8 = 9;
+pub const SHARED_CODE: u16 = 9;
 
-pub const SPARE_CODE: u8 = 10;
+pub const SPARE_CODE: u16 = 10;
 
 // What a code stands for.
-pub fn entry_of(code: u8) -> Entry
+pub fn entry_of(code: u16) -> Entry
     ensures { λ r. ⌜ r ≡ entryOf code ⌝ }
     ensures { λ r. ⌜ codeOf r ≡ code ⌝ }
 {
@@ -232,7 +232,7 @@ fn bad_entry(n: usize, e: Entry) -> bool
 }
 
 // Rule 9.
-fn bad_entries(entries: [u8; theory::MOST_ENTRIES], n: usize) -> bool
+fn bad_entries(entries: [u16; theory::MOST_ENTRIES], n: usize) -> bool
     requires { ⌜ Counted n ⌝ }
     ensures { λ r. ⌜ r ≡ rule9 n (structureIn entries n) ⌝ }
 {
@@ -246,7 +246,7 @@ fn bad_entries(entries: [u8; theory::MOST_ENTRIES], n: usize) -> bool
 }
 
 // 1 where a code names component i, or 0. No join has the code of a component that there can be.
-fn names(code: u8, i: usize) -> usize
+fn names(code: u16, i: usize) -> usize
     requires { ⌜ i < mostComponents ⌝ }
     ensures { λ r. ⌜ (r ≡ countOf i (named (entryOf code ∷ []))) × (r ≤ 1) ⌝ }
 {
@@ -254,7 +254,7 @@ fn names(code: u8, i: usize) -> usize
 }
 
 // How often component i is named.
-fn times_named(entries: [u8; theory::MOST_ENTRIES], n: usize, i: usize) -> usize
+fn times_named(entries: [u16; theory::MOST_ENTRIES], n: usize, i: usize) -> usize
     requires { ⌜ Counted n ⌝ }
     requires { ⌜ i < mostComponents ⌝ }
     ensures { λ r. ⌜ r ≡ countOf i (named (structureIn entries n)) ⌝ }
@@ -268,7 +268,7 @@ fn times_named(entries: [u8; theory::MOST_ENTRIES], n: usize, i: usize) -> usize
 }
 
 // Rule 10.
-fn bad_names(entries: [u8; theory::MOST_ENTRIES], n: usize) -> bool
+fn bad_names(entries: [u16; theory::MOST_ENTRIES], n: usize) -> bool
     requires { ⌜ Counted n ⌝ }
     ensures { λ r. ⌜ r ≡ rule10 n (structureIn entries n) ⌝ }
 {
@@ -288,7 +288,7 @@ fn is_short(height: usize) -> bool
 }
 
 // Rule 11.
-fn bad_joins(entries: [u8; theory::MOST_ENTRIES], n: usize) -> bool
+fn bad_joins(entries: [u16; theory::MOST_ENTRIES], n: usize) -> bool
     requires { ⌜ Counted n ⌝ }
     ensures { λ r. ⌜ r ≡ rule11 (structureIn entries n) ⌝ }
 {
@@ -319,7 +319,7 @@ pub fn first(number: u8, broken: bool, rest: u8) -> u8
 }
 
 // The number of the first of the rules 6 to 11 that is broken, or 0, of a structure of n components that have these flaws.
-pub fn rules_number(flaws: Flaws, entries: [u8; theory::MOST_ENTRIES], n: usize) -> u8
+pub fn rules_number(flaws: Flaws, entries: [u16; theory::MOST_ENTRIES], n: usize) -> u8
     requires { ⌜ Counted n ⌝ }
     ensures { λ r. ⌜ r ≡ firstBroken (flawTests flaws ++ structureTests n (structureIn entries n)) ⌝ }
 {

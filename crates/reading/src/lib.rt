@@ -114,13 +114,13 @@ fn read_blocks(sheet: &[u8], n: usize) -> Blocks
 }
 
 // The m codes from bit `place` on.
-fn read_entries(sheet: &[u8], place: usize, m: usize) -> [u8; theory::MOST_ENTRIES]
+fn read_entries(sheet: &[u8], place: usize, m: usize) -> [u16; theory::MOST_ENTRIES]
     requires { ⌜ (m ≤ mostEntries) × (place + entryBits * m ≤ 8 * length (now sheet)) × (place + entryBits * m ≤ 65536) ⌝ }
     ensures { λ r. ⌜ r ≡ entriesAt (now (sheet .entry)) place m ⌝ }
 {
-    let mut entries = [0u8; theory::MOST_ENTRIES];
+    let mut entries = [0u16; theory::MOST_ENTRIES];
     for j in 0..m {
-        entries[j] = reader::one(sheet, place + ENTRY_BITS * j, ENTRY_BITS) as u8;
+        entries[j] = reader::one(sheet, place + ENTRY_BITS * j, ENTRY_BITS) as u16;
     }
     entries
 }

@@ -2,7 +2,7 @@
 use Prim.Native.Nat.{ℕ, zero, suc, _<_}
 use mathlib.Core.List.{List, [], _∷_, _++_, map}
 use native.Mathlib.Omega.{arith}
-use lib.ListN.{length, getD}
+use lib.ListN.{length, getD, replicate, set}
 use Rattle.theory.specs.Sums.{forEach, oneOfEach, Every}
 
 pub every-map : {A : Type 0} {P Q : A → Type 0} → ((x : A) → P x → Q x) → {xs : List A} → Every P xs → Every Q xs
@@ -41,3 +41,12 @@ pub index-of-every : {A : Type 0} {P : A → Type 0} (z : A) {xs : List A} → E
 index-of-every z Every.none i h = absurd (omega arith)
 index-of-every z (Every.more p r) zero h = p
 index-of-every z (Every.more p r) (suc i) h = index-of-every z r i (omega arith)
+
+pub every-replicate : {A : Type 0} {P : A → Type 0} (x : A) (n : ℕ) → P x → Every P (replicate n x)
+every-replicate x zero h = Every.none
+every-replicate x (suc n) h = Every.more h (every-replicate x n h)
+
+pub every-set : {A : Type 0} {P : A → Type 0} {xs : List A} {x : A} → Every P xs → (i : ℕ) → P x → Every P (set xs i x)
+every-set Every.none i h = Every.none
+every-set (Every.more p r) zero h = Every.more h r
+every-set (Every.more p r) (suc i) h = Every.more p (every-set r i h)

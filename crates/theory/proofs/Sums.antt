@@ -3,11 +3,13 @@ use Prim.Native.Nat.{ℕ, zero, suc, _+_, _*_, _≤_, _<_}
 use mathlib.Core.Path.{_≡_, refl, sym, ap, ap₂, _∙_}
 use mathlib.Core.Bool.{Bool, true, false, cond}
 use mathlib.Core.Logic.{_⊎_, inl, inr}
-use mathlib.Core.List.{List, [], _∷_, _++_, map}
+use mathlib.Core.List.{List, [], _∷_, _++_, map, append-assoc, append-nil}
 use native.Mathlib.Nat.{mul-one, add-zero, add-assoc, zero-add, mul-zero, mul-add, add-le-add, le-refl}
+use native.Mathlib.Numerals.{add-one}
 use native.Mathlib.Omega.{arith}
 use lib.Dec.{eqb}
-use lib.ListN.{length, length-map}
+use lib.ListN.{length, getD, take, length-map}
+use lib.Seq.{take-suc}
 use borrow.Author.Tests.{eqb-true, eqb-false, ne-eqb}
 use Rattle.theory.specs.Sums.{sumBy, forEach, oneOfEach, countFrom}
 
@@ -86,3 +88,21 @@ length-count k (suc n) = ap suc (length-count (suc k) n)
 -- The list of f of each number below n.
 pub length-below : {A : Type 0} (f : ℕ → A) (n : ℕ) → length (map f (countFrom 0 n)) ≡ n
 length-below f n = length-map (countFrom 0 n) f ∙ length-count 0 n
+
+map-shift : {A : Type 0} (f : ℕ → A) (k n : ℕ) → map f (countFrom (suc k) n) ≡ map (λ j. f (suc j)) (countFrom k n)
+map-shift f k zero = refl
+map-shift f k (suc n) = ap (λ xs. f (suc k) ∷ xs) (map-shift f (suc k) n)
+
+-- A list is the list of its elements by their places.
+pub map-places : {A : Type 0} (d : A) (xs : List A) → map (λ j. getD xs j d) (countFrom 0 (length xs)) ≡ xs
+map-places d [] = refl
+map-places d (x ∷ xs) = ap (λ ys. x ∷ ys) (map-shift (λ j. getD (x ∷ xs) j d) 0 (length xs) ∙ map-places d xs)
+
+module _ {A B : Type 0} (f : A → List B) where
+  pub forEach-append : (xs ys : List A) → forEach (xs ++ ys) f ≡ forEach xs f ++ forEach ys f
+  forEach-append [] ys = refl
+  forEach-append (x ∷ xs) ys = rw (forEach-append xs ys) (sym (append-assoc (f x) (forEach xs f) (forEach ys f)))
+
+  -- The lists of one element more.
+  pub forEach-next : (xs : List A) (j : ℕ) (d : A) → j < length xs → forEach (take (j + 1) xs) f ≡ forEach (take j xs) f ++ f (getD xs j d)
+  forEach-next xs j d h = rw (add-one, take-suc xs j d, forEach-append, append-nil)

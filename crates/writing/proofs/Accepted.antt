@@ -8,12 +8,12 @@ use Prim.Native.Nat.{ℕ, zero, suc, _≤_, _<_}
 use lib.Dec.{ltb}
 use lib.ListN.{length}
 use Rattle.theory.specs.Sums.{Every, none, more}
-use Rattle.field.specs.Fields.{putAll}
+use Rattle.field.specs.Fields.{Field, putAll}
 use Rattle.plan.specs.declared.Plan.{Plan}
 use Rattle.plan.specs.Tests.{test, firstBroken, Unbroken, First}
 use Rattle.plan.specs.Plan.{componentsOf}
 use Rattle.plan.specs.Rules.{rule3, rule4, rules}
-use Rattle.writing.specs.Writing.{numberOf, lengthOf, sheetFields, planTests, written, writtenOf, bytesBy, bytesAfter}
+use Rattle.writing.specs.Writing.{numberOf, lengthOf, sheetFields, writerTests, written, writtenOf, bytesBy, bytesAfter}
 use Rattle.plan.proofs.Numbers.{no-number, none-broken, accepted-by, refused-by, first-none}
 
 pub record Accepted (p : Plan) (room : ℕ) : Type 0 where
@@ -24,9 +24,9 @@ pub record Accepted (p : Plan) (room : ℕ) : Type 0 where
 
 module _ (p : Plan) (room : ℕ) where
   pub number-accepts : numberOf p room ≡ 0 → Accepted p room
-  number-accepts e = go (no-number 15 (planTests p room) refl e)
+  number-accepts e = go (no-number 15 (writerTests p room) refl e)
     where
-      go : Every Unbroken (planTests p room) → Accepted p room
+      go : Every Unbroken (writerTests p room) → Accepted p room
       go (more e₃ (more e₄ (more e₆ (more e₇ (more e₈ (more e₉ (more e₁₀ (more e₁₁ (more e₁₅ none))))))))) =
           record {
             three = e₃;
@@ -49,11 +49,11 @@ module _ (p : Plan) (room : ℕ) where
       go (suc k) = refl
 
   -- The tests decide: 0 exactly when none is broken, and otherwise the number of the first that is.
-  pub written-accepted : ((writtenOf p room) .number ≡ 0) ↔ Every Unbroken (planTests p room)
-  written-accepted = rw written-number (accepted-by 15 (planTests p room) refl)
+  pub written-accepted : ((writtenOf p room) .number ≡ 0) ↔ Every Unbroken (writerTests p room)
+  written-accepted = rw written-number (accepted-by 15 (writerTests p room) refl)
 
-  pub written-refused-by : (k : ℕ) → 0 < k → ((writtenOf p room) .number ≡ k) ↔ First (planTests p room) k
-  written-refused-by k h = rw written-number (refused-by (planTests p room) k h)
+  pub written-refused-by : (k : ℕ) → 0 < k → ((writtenOf p room) .number ≡ k) ↔ First (writerTests p room) k
+  written-refused-by k h = rw written-number (refused-by (writerTests p room) k h)
 
   pub written-length : numberOf p room ≡ 0 → writtenOf p room ≡ record { number = 0; length = lengthOf p }
   unfolding writtenOf
@@ -68,13 +68,13 @@ written-refused p room k h e = go k h ∙ ap (λ x. written x (lengthOf p)) e
     go zero h = absurd (h refl)
     go (suc k) h = refl
 
+pub bytes-refused : (k : ℕ) (s : List ℕ) (fs : List Field) → (k ≡ 0 → ⊥) → bytesBy k s fs ≡ s
+bytes-refused zero s fs h = absurd (h refl)
+bytes-refused (suc k) s fs h = refl
+
 pub refused-stays : (p : Plan) (s : List ℕ) → (numberOf p (length s) ≡ 0 → ⊥) → bytesAfter p s ≡ s
 unfolding bytesAfter
-refused-stays p s = go (numberOf p (length s))
-  where
-    go : (k : ℕ) → (k ≡ 0 → ⊥) → bytesBy k s (sheetFields p) ≡ s
-    go zero h = absurd (h refl)
-    go (suc k) h = refl
+refused-stays p s = bytes-refused (numberOf p (length s)) s (sheetFields p)
 
 pub accepted-bytes : (p : Plan) (s : List ℕ) → numberOf p (length s) ≡ 0 → bytesAfter p s ≡ putAll s 0 (sheetFields p)
 unfolding bytesAfter

@@ -22,7 +22,7 @@ use Rattle.plan.specs.Tests.{Test, test, firstBroken, anyOf}
 use Rattle.plan.specs.Plan.{componentAt, componentsOf, codesOf, entryOf, cleanedPlan}
 use Rattle.plan.specs.Rules.{rule3, badCount, rule4, badTotal, badAlone, after, badInterval, badIntervals, badSum, flawsIn, flawTests, structureTests, rules}
 use Rattle.plan.proofs.Tests.{every-failed, any-map, any-alike, map-below, within}
-use Rattle.writing.specs.Writing.{sizeTests, numberOf, lengthOf, sheetFields, written, writtenOf, bytesBy, bytesAfter, IgnoresUnused}
+use Rattle.writing.specs.Writing.{numberOf, lengthOf, sheetFields, written, writtenOf, bytesBy, bytesAfter, IgnoresUnused}
 use Rattle.writing.proofs.Accepted.{number-accepts}
 
 -- The fields of an interval.
@@ -131,7 +131,8 @@ module _ (p : Plan) (room : ℕ) where
       four : p .count ≤ mostComponents → (b : Bool) → rule4 (componentsOf p) ≡ b → numberOf (cleanedPlan p) room ≡ numberOf p room
       four n true e = rw (rule4-cleaned p n, e)
       four n false e =
-          ap₂ (λ (ts : List Test) (len : ℕ). firstBroken (sizeTests (cleanedPlan p) ++ (ts ++ (test 15 (ltb room len) ∷ []))))
+          ap₂
+          (λ (ts : List Test) (len : ℕ). firstBroken (test 3 (rule3 (p .count)) ∷ test 4 (rule4 (componentsOf (cleanedPlan p))) ∷ (ts ++ (test 15 (ltb room len) ∷ []))))
           (rules-cleaned p n (held p e)) (length-cleaned p n)
           ∙ rw (rule4-cleaned p n)
 

@@ -38,17 +38,17 @@ structureFields p = map (bits entryBits) (codesOf p) ++ (bits entryBits 0 ∷ []
 unfoldable pub sheetFields : Plan → List Field
 sheetFields p = headFields (p .count) (lengthOf p) ++ (blockFields p ++ structureFields p)
 
--- The tests 3 and 4 (only k) of a plan.
-abbrev pub sizeTests : Plan → List Test
-sizeTests p = test 3 (rule3 (p .count)) ∷ test 4 (rule4 (componentsOf p)) ∷ []
+-- The writer's tests of the plan itself: 3, 4 (only k), 6 to 11.
+abbrev pub planTests : Plan → List Test
+planTests p = test 3 (rule3 (p .count)) ∷ test 4 (rule4 (componentsOf p)) ∷ rules p
 
--- The writer's tests: 3, 4 (only k), 6 to 11, then 15, the buffer is shorter than the sheet.
-abbrev pub planTests : Plan → ℕ → List Test
-planTests p room = sizeTests p ++ (rules p ++ (test 15 (ltb room (lengthOf p)) ∷ []))
+-- The writer's tests: those of the plan, then 15, the buffer is shorter than the sheet.
+abbrev pub writerTests : Plan → ℕ → List Test
+writerTests p room = planTests p ++ (test 15 (ltb room (lengthOf p)) ∷ [])
 
 -- The least of the writer's numbers that applies to a plan and a buffer of room bytes, or 0.
 abbrev pub numberOf : Plan → ℕ → ℕ
-numberOf p room = firstBroken (planTests p room)
+numberOf p room = firstBroken (writerTests p room)
 
 -- The sheet's length, or the number of the refusal and length 0.
 abbrev pub written : ℕ → ℕ → Written

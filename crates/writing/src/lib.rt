@@ -6,8 +6,9 @@ ghost use lib.ListN.{length};
 ghost use Rattle.field.specs.Fields.{bits, putAll};
 ghost use Rattle.plan.specs.Sheet.{headBytes, entryBits};
 ghost use Rattle.plan.specs.Plan.{codesIn};
+ghost use Rattle.plan.specs.Tests.{firstBroken};
 ghost use Rattle.plan.specs.Rules.{Counted, Sized};
-ghost use Rattle.writing.specs.Writing.{endOf, lengthOf, blockFields, sheetFields, writtenOf, bytesAfter};
+ghost use Rattle.writing.specs.Writing.{endOf, lengthOf, blockFields, sheetFields, planTests, writtenOf, bytesAfter};
 use plan::COMPONENT_COUNT_BITS;
 use plan::EDITION;
 use plan::EDITION_BITS;
@@ -45,19 +46,26 @@ fn sheet_length(p: Plan) -> usize
     end + n
 }
 
+// The first of the numbers 3, 4 (only k) and 6 to 11 that applies to a plan, or 0.
+pub fn plan_number(p: Plan) -> u8
+    ensures { λ r. ⌜ r ≡ firstBroken (planTests p) ⌝ }
+{
+    let n = p.count;
+    if plan::is_outside(1, theory::MOST_COMPONENTS, n) {
+        return 3;
+    }
+    if plan::bad_counts(p) {
+        return 4;
+    }
+    let entries = p.entries;
+    plan::rules_number(plan::plan_flaws(p), entries, n)
+}
+
 // What writing a plan into a buffer of room bytes comes to.
 fn test_plan(p: Plan, room: usize) -> Written
     ensures { λ r. ⌜ r ≡ writtenOf p room ⌝ }
 {
-    let n = p.count;
-    if plan::is_outside(1, theory::MOST_COMPONENTS, n) {
-        return refuse(3);
-    }
-    if plan::bad_counts(p) {
-        return refuse(4);
-    }
-    let entries = p.entries;
-    let number = plan::rules_number(plan::plan_flaws(p), entries, n);
+    let number = plan_number(p);
     if number != 0 {
         return refuse(number);
     }
@@ -87,7 +95,7 @@ fn put_blocks(out: &mut [u8], p: Plan)
 }
 
 // The codes of a structure of n components, from bit `place` on.
-fn put_entries(out: &mut [u8], place: usize, entries: [u8; theory::MOST_ENTRIES], n: usize)
+fn put_entries(out: &mut [u8], place: usize, entries: [u16; theory::MOST_ENTRIES], n: usize)
     requires { ⌜ Counted n ⌝ }
     requires { ⌜ (place + 8 * n ≤ 8 * length (now out)) × (place + 8 * n ≤ 65536) ⌝ }
     ensures { λ _. ⌜ now (out .exit) ≡ putAll (now (out .entry)) place (map (bits entryBits) (codesIn entries n)) ⌝ }

@@ -41,4 +41,4 @@ pub bad-entries-spec : {M : Type 1} → statement M
 bad-entries-spec =
     tie.close (tie.spec Inv-loop μ-loop (λ c κs. search needs)
     (λ c. search-starts (λ i. badEntry (c .before .args .n) (entryOf (getD (c .before .args .t1) i 0))) (entryCount (c .before .args .n)))
-    (λ c. search needs) (λ c κs. search needs) (λ c κs. search needs) returns (λ c. search needs) (λ c. search needs) loop-again returns-2)
+    (λ c. search needs) (λ c. search needs) (λ c κs. search needs) (λ c κs. search needs) returns (λ c. search needs) (λ c. search needs) loop-again returns-2)

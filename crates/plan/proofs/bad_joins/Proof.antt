@@ -63,5 +63,5 @@ returns-2 c =
 
 pub bad-joins-spec : {M : Type 1} → statement M
 bad-joins-spec =
-    tie.close (tie.spec Inv-loop μ-loop (λ c κs. search needs) loop-holds (λ c. search needs) (λ c κs. search needs) (λ c. search needs)
+    tie.close (tie.spec Inv-loop μ-loop (λ c κs. search needs) loop-holds (λ c. search needs) (λ c. search needs) (λ c κs. search needs) (λ c. search needs)
     (λ c. search needs) (λ c. search needs) (λ c κs. search needs) returns sub-height (λ c. search needs) (λ c. search needs) loop-again returns-2)

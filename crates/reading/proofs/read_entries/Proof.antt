@@ -1,24 +1,17 @@
 -- `reading::read_entries` meets its contract. Assumes nothing.
 use borrow.Author.Needs.{needs}
 use mathlib.Core.Path.{_≡_, refl, ap, _∙_}
-use mathlib.Core.List.{List}
-use Prim.Native.Nat.{ℕ, _+_, _-_, _*_, _≤_}
-use native.Mathlib.Numerals.{add-one}
+use Prim.Native.Nat.{_+_, _-_, _*_, _≤_}
 use native.Mathlib.Omega.{arith}
-use lib.ListN.{set}
 use denote.Ref.{now}
 use Rattle.field.specs.Bits.{fieldAt}
 use Rattle.field.proofs.Field.{field-lt}
 use Rattle.block.specs.Rows.{row}
+use Rattle.block.proofs.Rows.{row-next}
 use Rattle.theory.specs.Limits.{mostEntries}
 use Rattle.reading.specs.Reading.{entriesAt}
 use Rattle.reading.proofs.read_entries.Statement.{statement}
 use Rattle.reading.proofs.read_entries.Tie as tie
-
--- One code more.
-more : (f : ℕ → ℕ) (xs : List ℕ) (j x : ℕ) → xs ≡ row 0 mostEntries f j → x ≡ f j → set xs j x ≡ row 0 mostEntries f (j + 1)
-unfolding row
-more f xs j x e d = rw (add-one, e, d)
 
 abbrev Inv-loop : tie.InvT-loop
 Inv-loop sheet place m entries₀ j₀ entries j = (j ≤ m) × (entries ≡ entriesAt sheet place j)
@@ -39,7 +32,7 @@ loop-again : tie.Need-loop-again Inv-loop μ-loop
 loop-again c =
     let a = c .before .before .before .before .args in
     let l = c .before .before .loop in
-    (omega arith, more (λ j. fieldAt (now (a .sheet)) (a .place + 4 * j) 4) (l .entries) (l .j) (c .one .result) (l .inv .1) (c .one .ensures))
+    (omega arith, row-next 0 mostEntries (λ j. fieldAt (now (a .sheet)) (a .place + 4 * j) 4) (l .entries) (l .j) (c .one .result) (l .inv .1) (c .one .ensures))
 
 returns : tie.Need-returns Inv-loop μ-loop
 returns c =
@@ -51,4 +44,4 @@ returns c =
 pub read-entries-spec : {M : Type 1} → statement M
 read-entries-spec =
     tie.close (tie.spec Inv-loop μ-loop loop-holds (λ c. search needs) (λ c. search needs) (λ c κs. search needs) cast-entries (λ c. search needs)
-    (λ c. search needs) (λ c. search needs) loop-again returns)
+    (λ c. search needs) (λ c. search needs) (λ c. search needs) loop-again returns)

@@ -145,7 +145,7 @@ returns-2 c =
 pub run-plan-spec : {M : Type 1} → statement M
 run-plan-spec =
     tie.close
-    (tie.spec Inv-loop μ-loop (λ c κs. search needs) (λ c κs. search needs) (λ c κs. search needs) loop-holds (λ c. search needs)
+    (tie.spec Inv-loop μ-loop (λ c κs. search needs) (λ c κs. search needs) (λ c κs. search needs) loop-holds (λ c. search needs) (λ c. search needs)
     (λ c κs. search needs) (λ c. search needs) mul-c element-copy-out-c push-requires (λ c. search needs) apply-requires (λ c κs. search needs)
     (λ c. search needs) returns (λ c. search needs) (λ c. search needs) loop-again (λ c. search needs) (λ c. search needs) settle-requires
     (λ c. search needs) returns-2)

@@ -1,0 +1,4 @@
+-- What is proved of plans as bytes.
+pub mod Decoding
+pub mod Encoding
+pub mod RoundTrip

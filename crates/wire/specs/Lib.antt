@@ -1,0 +1,2 @@
+-- A plan as bytes.
+pub mod Wire
