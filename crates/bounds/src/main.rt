@@ -1,6 +1,7 @@
 // The program: reads a demand, an allowance and a sheet from standard input, and prints the answer and the drive's list. What is read
-// and printed is open in the contracts of the functions that read and print: no contract can speak of it.
+// and printed, and whether it could be, is open in the contracts of the functions that read and print: no contract can speak of it.
 use evaluate::Answer;
+use libc::STDERR_FILENO;
 use libc::STDIN_FILENO;
 use libc::STDOUT_FILENO;
 ghost use mathlib.Core.Path.{_≡_};
@@ -30,40 +31,49 @@ fn skip_rest() {
     }
 }
 
-// Prints a word and a number behind it.
-fn print_field(word: &[u8], n: u64) {
-    io::write_all(STDOUT_FILENO, word);
-    io::print_decimal(STDOUT_FILENO, n);
+// Prints a word and a number behind it. Each function that prints stops at the first failed write, and answers whether there was none.
+fn print_field(word: &[u8], n: u64) -> bool {
+    io::write_all(STDOUT_FILENO, word) && io::print_decimal(STDOUT_FILENO, n)
 }
 
-fn print_answer(a: Answer) {
-    print_field(b"answer ", numbers::wide(a.number));
-    print_field(b" total ", a.total);
-    print_field(b" belief ", a.belief);
-    print_field(b" plausibility ", a.plausibility);
-    print_field(b" pairs ", a.pairs);
-    print_field(b" intervals ", a.intervals);
-    io::write_all(STDOUT_FILENO, b"\n");
+fn print_answer(a: Answer) -> bool {
+    print_field(b"answer ", numbers::wide(a.number))
+        && print_field(b" total ", a.total)
+        && print_field(b" belief ", a.belief)
+        && print_field(b" plausibility ", a.plausibility)
+        && print_field(b" pairs ", a.pairs)
+        && print_field(b" intervals ", a.intervals)
+        && io::write_all(STDOUT_FILENO, b"\n")
 }
 
 // Prints the record at `at`: low, high and weight.
-fn print_record(store: &[u8], at: usize)
+fn print_record(store: &[u8], at: usize) -> bool
     requires { ⌜ at + 12 ≤ length (now store) ⌝ }
 {
-    io::print_decimal(STDOUT_FILENO, numbers::read_number(store, at, 2));
-    print_field(b" ", numbers::read_number(store, at + 2, 2));
-    print_field(b" ", numbers::read_number(store, at + 4, 8));
-    io::write_all(STDOUT_FILENO, b"\n");
+    io::print_decimal(STDOUT_FILENO, numbers::read_number(store, at, 2))
+        && print_field(b" ", numbers::read_number(store, at + 2, 2))
+        && print_field(b" ", numbers::read_number(store, at + 4, 8))
+        && io::write_all(STDOUT_FILENO, b"\n")
 }
 
 // Prints the first `count` records, all of which lie in the store.
-fn print_list(store: &[u8], count: u64) {
+fn print_list(store: &[u8], count: u64) -> bool {
     let mut at = 0;
     let mut left = count;
     while 0 < left && at + theory::RECORD_BYTES <= store.len() {
-        print_record(store, at);
+        if !print_record(store, at) {
+            return false;
+        }
         at += theory::RECORD_BYTES;
         left -= 1;
+    }
+    true
+}
+
+// Says on standard error that the output could not be written, where it could not.
+fn report(written: bool) {
+    if !written {
+        io::write_all(STDERR_FILENO, b"bounds: the output could not be written\n");
     }
 }
 
@@ -72,7 +82,7 @@ fn main() {
     let mut input = [0u8; 264];
     let n = io::read_full(STDIN_FILENO, &mut input);
     if n < 8 {
-        io::write_all(STDOUT_FILENO, b"input short\n");
+        report(io::write_all(STDOUT_FILENO, b"input short\n"));
         return;
     }
     if n == 264 {
@@ -82,6 +92,5 @@ fn main() {
     let allowance = word(&input, 4);
     let mut store = [0u8; theory::STORE_BYTES];
     let a = evaluate::bounds(&input[8..n], demand, allowance, &mut store);
-    print_answer(a);
-    print_list(&store, a.intervals);
+    report(print_answer(a) && print_list(&store, a.intervals));
 }
