@@ -1,4 +1,4 @@
--- `bench_table::print_list` meets its contract. The loop only drives the test: its invariant says nothing, and its measure is what is left of the turns.
+-- `bench_table::print_list` meets its contract. The loop only prints: its invariant says nothing, and its measure is what is left of the turns.
 -- Assumes nothing.
 use borrow.Author.Needs.{needs}
 use Prim.Native.Nat.{_-_}
@@ -14,4 +14,4 @@ abbrev μ-loop : tie.MeasureT-loop
 pub print-list-spec : {M : Type 1} → statement M
 print-list-spec =
     tie.close
-    (tie.spec Inv-loop μ-loop (λ c. search needs) (λ c. search needs) (λ c κs. search needs) (λ c. search needs) (λ c. search needs) (λ c. search needs) (λ c. search needs))
+    (tie.spec Inv-loop μ-loop (λ c. search needs) (λ c κs. search needs) (λ c. search needs) (λ c. search needs) (λ c. search needs) (λ c. search needs))

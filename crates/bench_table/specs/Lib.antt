@@ -1,0 +1,2 @@
+-- What the runner of the bench table compares.
+pub mod Rows
