@@ -1,0 +1,129 @@
+//! What a case puts to a call: a sheet or a plan, a demand, an allowance, the lengths of the buffers.
+
+use crate::choices::Run;
+use crate::damage::{self, break_plan, litter, OF_PLAN, RULES_OF_PLAN};
+use crate::plan::Plan;
+use crate::random::Random;
+use crate::sheet::pack;
+use crate::valid;
+
+/// A sheet: that of the plan, with one rule broken, with several, or spoiled at random.
+fn sheet_of(random: &mut Random, plan: &Plan) -> Vec<u8> {
+    match random.below(100) {
+        0..=49 => pack(plan),
+        50..=74 => {
+            let rule = random.between(1, 11) as u32;
+            damage::broken_sheet(random, *plan, &[rule])
+        }
+        75..=86 => {
+            let rules: Vec<u32> = (0..random.between(2, 4)).map(|_| random.between(1, 11) as u32).collect();
+            damage::broken_sheet(random, *plan, &rules)
+        }
+        _ => damage::spoiled_sheet(random, plan),
+    }
+}
+
+/// A sheet whose choices can be enumerated.
+pub fn sheet_to_run(random: &mut Random) -> Vec<u8> {
+    let plan = valid::to_run(random);
+    sheet_of(random, &plan)
+}
+
+/// A sheet of any size.
+pub fn sheet(random: &mut Random) -> Vec<u8> {
+    let plan = valid::any(random);
+    sheet_of(random, &plan)
+}
+
+/// A plan: valid, with one rule broken, with several, with some numbers replaced, or random. Its unused places hold
+/// anything.
+pub fn plan(random: &mut Random) -> Plan {
+    let mut plan = valid::any(random);
+    if random.chance(70) {
+        litter(random, &mut plan);
+    }
+    let broken = match random.below(100) {
+        0..=49 => 0,
+        50..=76 => 1,
+        77..=86 => random.between(2, 4),
+        87..=95 => {
+            damage::replace_numbers(random, &mut plan);
+            0
+        }
+        _ => return damage::random_plan(random),
+    };
+    for _ in 0..broken {
+        let rule = random.pick(&RULES_OF_PLAN);
+        break_plan(random, &mut plan, rule, &OF_PLAN);
+    }
+    plan
+}
+
+/// A plan that keeps the rules, for the way there and back.
+pub fn valid_plan(random: &mut Random) -> Plan {
+    let mut plan = valid::any(random);
+    litter(random, &mut plan);
+    plan
+}
+
+/// A sheet that keeps the rules.
+pub fn valid_sheet(random: &mut Random) -> Vec<u8> {
+    pack(&valid::any(random))
+}
+
+/// A demand at, above or below the ends of the drive's intervals, at the ends of its own range, or anything.
+pub fn demand(random: &mut Random, run: Option<&Run>) -> u32 {
+    let end = match run.filter(|run| !run.list.is_empty()) {
+        Some(run) => {
+            let focal = random.pick(&run.list);
+            random.pick(&[focal.low, focal.high])
+        }
+        None => random.between(0, 4_096) as u32,
+    };
+    match random.below(16) {
+        0..=4 => end,
+        5..=8 => end + 1,
+        9 | 10 => end.saturating_sub(1),
+        11 => 0,
+        12 => u32::MAX,
+        13 => end + (random.between(1, 65_535) << 16) as u32, // its low bits are an end
+        14 => random.between(0, 25_000) as u32,
+        _ => random.next() as u32,
+    }
+}
+
+/// An allowance at the pairs of some join, one less, or anything.
+pub fn allowance(random: &mut Random, run: Option<&Run>) -> u32 {
+    let (all, some) = match run.filter(|run| !run.joins.is_empty()) {
+        Some(run) => (run.pairs() as u32, run.joins[random.below(run.joins.len())].pairs as u32),
+        None => (0, random.between(0, 100) as u32),
+    };
+    match random.below(16) {
+        0..=3 => all,
+        4 | 5 => all.saturating_sub(1),
+        6 => some,
+        7 => some.saturating_sub(1),
+        8 => all + random.between(1, 10) as u32,
+        9 => all.saturating_sub(1) + 65_536, // enough, though its low bits are not
+        10 => random.between(0, all as usize + 10) as u32,
+        11 => 0,
+        12 => random.next() as u32,
+        13 => u32::MAX,
+        _ => 66_688,
+    }
+}
+
+/// The length of a buffer that needs `needed` bytes: too short in `percent` of 100.
+pub fn length(random: &mut Random, needed: usize, percent: usize) -> usize {
+    if random.chance(percent) {
+        let any = random.below(needed);
+        return random.pick(&[0, 0, 1, needed - 1, needed - 1, any]);
+    }
+    match random.below(1_000) {
+        0..=599 => needed,
+        600..=699 => needed + 1,
+        700..=899 => needed + random.between(1, 64),
+        900..=997 => needed + random.between(1, 1_000),
+        _ => 65_536 + random.below(needed), // long, though its low bits are not
+    }
+}

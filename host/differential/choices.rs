@@ -1,0 +1,151 @@
+//! The drive's list by its definition: the sum over all choices of one interval per component, each choice evaluated
+//! through the whole structure. No list is joined with another: a join's list is enumerated from the components under
+//! it.
+
+use crate::plan::{Plan, COMPONENTS, SERIES, SHARED};
+
+/// The most intervals of a join's list.
+pub const MOST: usize = 256;
+/// Beyond this many, the intervals of a join are not counted on.
+const COUNTED: usize = 2 * MOST;
+
+#[derive(Clone, Copy, Default)]
+pub struct Focal {
+    pub low: u32,
+    pub high: u32,
+    pub weight: u64,
+}
+
+pub struct Join {
+    /// The pairs formed up to this join, its own included.
+    pub pairs: u64,
+    /// The different intervals of its list.
+    pub intervals: usize,
+}
+
+/// The joins in the order of the structure, up to the first with more than 256 intervals; the drive's list if there is
+/// none such.
+pub struct Run {
+    pub joins: Vec<Join>,
+    pub list: Vec<Focal>,
+    pub total: u64,
+    /// The choices of one interval per component.
+    pub choices: usize,
+}
+
+impl Run {
+    /// The number for an allowance: 0, 13 or 14.
+    pub fn number(&self, allowance: u32) -> u32 {
+        for join in &self.joins {
+            if join.pairs > u64::from(allowance) {
+                return 13;
+            }
+            if join.intervals > MOST {
+                return 14;
+            }
+        }
+        0
+    }
+
+    /// The pairs of all joins.
+    pub fn pairs(&self) -> u64 {
+        self.joins.last().map_or(0, |join| join.pairs)
+    }
+
+    pub fn belief(&self, demand: u32) -> u64 {
+        self.list.iter().filter(|focal| focal.low >= demand).map(|focal| focal.weight).sum()
+    }
+
+    pub fn plausibility(&self, demand: u32) -> u64 {
+        self.list.iter().filter(|focal| focal.high >= demand).map(|focal| focal.weight).sum()
+    }
+}
+
+/// Runs a plan that keeps the rules.
+pub fn run(plan: &Plan) -> Run {
+    let total = plan.used().iter().map(|component| u64::from(component.total)).product();
+    let choices = plan.used().iter().map(|component| component.used().len()).product();
+    let mut run = Run { joins: Vec::new(), list: Vec::new(), total, choices };
+    let structure = plan.structure();
+    let mut stack: Vec<(usize, usize)> = Vec::new(); // where a sub-structure starts, and its number of intervals
+    for (place, entry) in structure.iter().enumerate() {
+        if *entry < SERIES {
+            run.list = list(plan, &structure[place..=place]);
+            stack.push((place, run.list.len()));
+            continue;
+        }
+        let (_, right) = stack.pop().expect("two lists");
+        let (start, left) = stack.pop().expect("two lists");
+        run.list = list(plan, &structure[start..=place]);
+        stack.push((start, run.list.len()));
+        run.joins.push(Join { pairs: run.pairs() + (left * right) as u64, intervals: run.list.len() });
+        if run.list.len() > MOST {
+            run.list.clear();
+            break;
+        }
+    }
+    run
+}
+
+/// The intervals of a sub-structure in ascending order of low, then of high, each once, with the weights of all choices
+/// that give it.
+fn list(plan: &Plan, structure: &[u16]) -> Vec<Focal> {
+    let mut list: Vec<Focal> = Vec::new();
+    let under: Vec<usize> =
+        structure.iter().filter(|entry| **entry < SERIES).map(|entry| usize::from(*entry)).collect();
+    let mut choice = [0; COMPONENTS]; // for each component the place of its interval
+    loop {
+        let outcome = evaluate(plan, structure, &choice);
+        match list.binary_search_by_key(&(outcome.low, outcome.high), |focal| (focal.low, focal.high)) {
+            Ok(place) => list[place].weight += outcome.weight,
+            Err(place) => list.insert(place, outcome),
+        }
+        if list.len() > COUNTED || !advance(plan, &under, &mut choice) {
+            return list;
+        }
+    }
+}
+
+/// The next choice of the components `under`; false after the last.
+fn advance(plan: &Plan, under: &[usize], choice: &mut [usize; COMPONENTS]) -> bool {
+    for component in under {
+        choice[*component] += 1;
+        if choice[*component] < usize::from(plan.components[*component].count) {
+            return true;
+        }
+        choice[*component] = 0;
+    }
+    false
+}
+
+/// One choice through a structure: lows and highs are joined separately, weights are multiplied.
+fn evaluate(plan: &Plan, structure: &[u16], choice: &[usize; COMPONENTS]) -> Focal {
+    let mut stack = [Focal::default(); COMPONENTS];
+    let mut height = 0;
+    for entry in structure {
+        if *entry < SERIES {
+            let component = usize::from(*entry);
+            let interval = plan.components[component].intervals[choice[component]];
+            stack[height] =
+                Focal { low: interval.low.into(), high: interval.high.into(), weight: interval.weight.into() };
+            height += 1;
+        } else {
+            let (left, right) = (stack[height - 2], stack[height - 1]);
+            stack[height - 2] = Focal {
+                low: joined(*entry, left.low, right.low),
+                high: joined(*entry, left.high, right.high),
+                weight: left.weight * right.weight,
+            };
+            height -= 1;
+        }
+    }
+    stack[0]
+}
+
+fn joined(join: u16, left: u32, right: u32) -> u32 {
+    match join {
+        SERIES => left.min(right),
+        SHARED => left + right,
+        _ => left.max(right),
+    }
+}
