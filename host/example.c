@@ -1,63 +1,92 @@
-/* Asks for the shares of one drive and prints them: example [DEMAND]
- * The drive is example 2.1 of Wagenknecht and Gocht, "On the reliability of multistate systems with imprecise probabilities":
- * two modules in series. Speeds are times 10, weights times 100. */
+/* For how much of the time does this chair make a ramp's speed? example [DEMAND], in millimetres a second
+ *
+ * The chair: a joystick with an attendant's control as its spare, two motor drivers, a battery gauge and a programming lead. Whoever
+ * steers, the slowest of the others rules:   (joystick spare attendant) series left series right series gauge series lead
+ * The plan is built from the modules' logs, written as a sheet, and the sheet is asked. */
 #include <inttypes.h>
 #include <stdio.h>
 #include <stdlib.h>
 
 #include "drive.h"
 
-/* Each field at its width in bits; an interval takes 34, so that only every fourth starts at a byte. */
-static const uint8_t sheet[] = {
-    /* edition 1, 2 modules, 30 bytes */
-    0x12, 0x1E,
-    /* module 0: 3 intervals, T = 100; 0 to 4 weight 20, 3 to 8 weight 67, 7 to 10 weight 13 */
-    0x30, 0x64, 0x00, 0x00, 0x04, 0x05, 0x00, 0x0C, 0x02, 0x04, 0x30, 0x07, 0x00, 0xA0, 0x34,
-    /* module 1: 2 intervals, T = 100; 0 to 6 weight 67, 8 to 10 weight 33 */
-    0x20, 0x64, 0x00, 0x00, 0x06, 0x10, 0xC0, 0x20, 0x02, 0x82, 0x10,
-    /* structure: list 0, list 1, series; zero */
-    0x01, 0x80,
+static const unsigned long ramp = 1400;
+static const uint64_t lines = 20;
+
+/* A module's log: of `hours` it ran for `weight` somewhere from low to high, in millimetres a second. */
+struct log {
+    const char *name;
+    unsigned hours, intervals;
+    struct drive_interval interval[DRIVE_MODULE_INTERVALS_MAX];
 };
 
-/* The share as a fraction and in percent, the percent cut after two places. No step overflows, since total is at most 10^18. */
-static void print_share(const char *what, uint64_t part, uint64_t total) {
-    unsigned hundredths = 0;
-    uint64_t rest = part;
-    for (int i = 0; i < 4; i++) {
-        rest *= 10;
-        hundredths = hundredths * 10 + (unsigned)(rest / total);
-        rest %= total;
+/* What a module lets the chair do: 0 where it failed, 2,778 (10 km/h) where it is not in the way. */
+static const struct log logs[] = {
+    {"joystick", 1000, 3, {{0, 0, 6}, {1000, 2200, 44}, {2500, 2778, 950}}},
+    {"attendant's control", 1000, 2, {{0, 0, 15}, {1400, 1800, 985}}},
+    {"left motor driver", 1000, 3, {{0, 0, 2}, {1100, 2778, 28}, {2600, 2778, 970}}},
+    {"right motor driver", 1000, 3, {{0, 0, 3}, {1100, 2778, 31}, {2600, 2778, 966}}},
+    {"battery gauge", 1000, 3, {{1000, 1400, 20}, {1300, 2778, 130}, {2700, 2778, 850}}},
+    {"programming lead", 500, 2, {{1000, 1200, 4}, {2778, 2778, 496}}},
+};
+
+static const unsigned structure[] = {
+    0, 1, DRIVE_ED1_SPARE,                     /* joystick, attendant's control */
+    2, 3, DRIVE_ED1_SERIES, DRIVE_ED1_SERIES,  /* the two drivers; both with who steers */
+    4, DRIVE_ED1_SERIES, 5, DRIVE_ED1_SERIES,  /* the gauge, then the lead */
+};
+
+static void build_plan(uint8_t *plan) {
+    drive_plan_clear(plan);
+    for (size_t i = 0; i < sizeof logs / sizeof *logs; i++) {
+        uint32_t module = drive_plan_module(plan, logs[i].hours);
+        for (unsigned j = 0; j < logs[i].intervals; j++) {
+            struct drive_interval t = logs[i].interval[j];
+            drive_plan_interval(plan, module, t.low, t.high, t.weight);
+        }
     }
-    printf("%-14s %5" PRIu64 " of %" PRIu64 " = %3u.%02u %%\n", what, part, total, hundredths / 100, hundredths % 100);
+    for (size_t i = 0; i < sizeof structure / sizeof *structure; i++) drive_plan_entry(plan, structure[i]);
 }
 
+static int refused(const char *what, uint32_t number) {
+    fprintf(stderr, "%s: refused with %" PRIu32 ", %s\n", what, number, drive_message(number));
+    return 1;
+}
+
+static void print_percent(uint32_t hundredths) { printf("%3" PRIu32 ".%02" PRIu32 " %%", hundredths / 100, hundredths % 100); }
+
 int main(int argc, char **argv) {
-    static uint8_t list[DRIVE_LIST_BYTES];
-    uint8_t answer[DRIVE_ANSWER_BYTES];
+    static uint8_t plan[DRIVE_PLAN_BYTES], sheet[DRIVE_SHEET_BYTES_MAX], length[DRIVE_LENGTH_BYTES];
+    static uint8_t list[DRIVE_LIST_BYTES], answer[DRIVE_ANSWER_BYTES];
     char *end = NULL;
-    unsigned long demand = argc == 2 ? strtoul(argv[1], &end, 10) : 7;
+    unsigned long demand = argc == 2 ? strtoul(argv[1], &end, 10) : ramp;
     if (argc > 2 || (end != NULL && (*end != 0 || end == argv[1])) || demand > UINT32_MAX) {
         fprintf(stderr, "usage: example [DEMAND]\n");
         return 2;
     }
 
-    uint32_t number = drive_bounds(sheet, sizeof sheet, (uint32_t)demand, 1000, list, sizeof list, answer, sizeof answer);
-    if (number != DRIVE_ACCEPTED) {
-        printf("refused with %" PRIu32 ": %s\n", number, drive_message(number));
-        return 1;
-    }
-
+    build_plan(plan);
+    uint32_t number = drive_write_sheet(plan, sizeof plan, sheet, sizeof sheet, length, sizeof length);
+    if (number != DRIVE_ACCEPTED) return refused("the plan", number);
+    size_t bytes = drive_read_length(length);
+    number = drive_bounds(sheet, bytes, (uint32_t)demand, DRIVE_PAIRS_MAX, list, sizeof list, answer, sizeof answer);
+    if (number != DRIVE_ACCEPTED) return refused("the sheet", number);
     struct drive_answer a = drive_read_answer(answer);
-    printf("How much of the time does this drive run at %lu mm/s or more?\n\n", demand);
-    print_share("Belief", a.belief, a.total);
-    print_share("Plausibility", a.plausibility, a.total);
-    printf("\nThe records vouch for the first share. Nothing in them rules out the second.\n");
-    printf("\nThe drive's %" PRIu64 " speed intervals, from %" PRIu64 " pairs:\n\n", a.intervals, a.pairs);
-    for (uint64_t i = 0; i < a.intervals; i++) {
+
+    printf("This chair makes %lu mm/s (%.1f km/h) or more\n\n  for ", demand, (double)demand * 0.0036);
+    print_percent(drive_belief_hundredths(a));
+    printf(" of the time at least: so much the logs of its modules vouch for (belief);\n  for ");
+    print_percent(drive_plausibility_hundredths(a));
+    printf(" of the time at most: more the logs rule out (plausibility).\n\n");
+    printf("As fractions: %" PRIu64 " and %" PRIu64 "\n          of  %" PRIu64 "\n\n", a.belief, a.plausibility, a.total);
+
+    printf("%zu modules, a sheet of %zu bytes, %" PRIu64 " pairs. The chair's speed in mm/s, %" PRIu64 " intervals:\n\n",
+           sizeof logs / sizeof *logs, bytes, a.pairs, a.intervals);
+    for (uint64_t i = 0; i < a.intervals && i < lines; i++) {
         struct drive_interval r = drive_read_interval(list, (size_t)i);
-        char name[32];
-        snprintf(name, sizeof name, "%" PRIu32 " to %" PRIu32, r.low, r.high);
-        print_share(name, r.weight, a.total);
+        printf("  %4" PRIu32 " to %4" PRIu32 "  ", r.low, r.high);
+        print_percent(drive_hundredths_down(r.weight, a.total));
+        printf("\n");
     }
+    if (a.intervals > lines) printf("  and %" PRIu64 " more\n", a.intervals - lines);
     return 0;
 }

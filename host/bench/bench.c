@@ -89,13 +89,13 @@ static struct plan chair(void) {
         {1000, 4, {{0, 0, 8}, {0, 500, 42}, {300, 700, 350}, {650, 850, 600}}},
         {1000, 4, {{0, 0, 9}, {0, 500, 51}, {300, 700, 340}, {650, 850, 600}}},
     };
-    static const uint8_t entry[] = {0, 1, SPARE, 2, SERIES, 3, 4, SHARED, SERIES};
+    static const uint16_t entry[] = {0, 1, DRIVE_ED1_SPARE, 2, DRIVE_ED1_SERIES, 3, 4, DRIVE_ED1_SHARED, DRIVE_ED1_SERIES};
     return make_plan(5, c, entry);
 }
 
 /* Two lists of x times y single speeds each, in series: the pairs of the last join grow with the product of their lengths. */
 static struct plan grown(unsigned x, unsigned y) {
-    struct plan p = two_groups(1, SERIES);
+    struct plan p = two_groups(1, DRIVE_ED1_SERIES);
     p.component[0] = p.component[3] = speeds(x, 1);
     p.component[1] = p.component[4] = speeds(8, x);
     p.component[2] = p.component[5] = speeds(y, 8 * x);
@@ -104,10 +104,10 @@ static struct plan grown(unsigned x, unsigned y) {
 
 int main(int argc, char **argv) {
     const struct bench rows[] = {
-        bench_of("W, two modules", two(W0, W1, SERIES)),
+        bench_of("W, two modules", two(W0, W1, DRIVE_ED1_SERIES)),
         bench_of("chair, five modules", chair()),
         bench_of("256 intervals", three(4)),
-        bench_of("128 and 128, shared", two_groups(2, SHARED)),
+        bench_of("128 and 128, shared", two_groups(2, DRIVE_ED1_SHARED)),
         bench_of("widest, six modules", widest()),
     };
     const struct bench growth[] = {

@@ -1,9 +1,52 @@
-/* The call on every number, with buffers too short, exact and too long, and on the bench table. C and C++. */
+/* The three calls on every number, with buffers too short, exact and too long, and on the bench table. C and C++. */
 #include "common.h"
+
+/* Six modules with eight intervals and T 1,000 each, at the greatest speeds; all shared. */
+static struct plan longest(void) {
+    struct plan p = two_groups(1, DRIVE_ED1_SHARED);
+    for (unsigned i = 0; i < DRIVE_MODULES_MAX; i++) {
+        p.component[i].total = DRIVE_MODULE_TOTAL_MAX;
+        p.component[i].count = DRIVE_MODULE_INTERVALS_MAX;
+        for (unsigned j = 0; j < DRIVE_MODULE_INTERVALS_MAX; j++) {
+            p.component[i].focal[j].low = p.component[i].focal[j].high = DRIVE_SPEED_MAX - 7 + j;
+            p.component[i].focal[j].weight = 125;
+        }
+    }
+    return p;
+}
+
+/* A buffer right behind a page that can not be touched, or right before one. It holds marks, some behind its end too where they fit. */
+struct lent {
+    uint8_t *bytes;
+    size_t length, filled;
+};
+
+static struct lent lend(struct fence pages, size_t length, int at_end) {
+    struct lent b;
+    b.bytes = at_end ? up_to_end(pages, length) : from_start(pages);
+    b.length = length;
+    b.filled = at_end ? length : length + 64;
+    fill_marks(b.bytes, b.filled);
+    return b;
+}
+
+/* The same with bytes at its front, as many as fit. */
+static struct lent lend_bytes(struct fence pages, const uint8_t *bytes, size_t count, size_t length, int at_end) {
+    struct lent b = lend(pages, length, at_end);
+    memcpy(b.bytes, bytes, count < length ? count : length);
+    return b;
+}
+
+/* Length 0 goes with a null pointer. */
+static uint8_t *pointer(struct lent b) { return b.length != 0 ? b.bytes : NULL; }
+
+/* What is only read can not be written during the call. */
+static void only_read(struct fence pages, int on) { mprotect(from_start(pages), pages.size, on ? PROT_READ : PROT_READ | PROT_WRITE); }
 
 /* The sheet that reaches a number, and the allowance of the call. */
 struct row {
     uint32_t number, allowance;
+    struct plan plan;
     struct sheet sheet;
 };
 
@@ -20,15 +63,16 @@ static struct sheet *add(struct rows *rows, uint32_t number, uint32_t allowance,
     struct row *r = &rows->row[rows->count++];
     r->number = number;
     r->allowance = allowance;
+    r->plan = *p;
     r->sheet = make_sheet(p);
     return &r->sheet;
 }
 
 /* Each number from 0 to 14, those with several causes more than once. 12 is met by short buffers. */
 static void add_rows(struct rows *rows) {
-    static const uint8_t entry[][3] = {{0, 1, 11}, {0, 2, 8}, {0, 0, 8}, {8, 0, 1}};
+    static const uint16_t entry[][3] = {{0, 1, 11}, {0, 2, 8}, {0, 0, 8}, {8, 0, 1}};
     static const uint32_t entry_number[] = {9, 9, 10, 11};
-    const struct plan good = two(A, B, SHARED), wide = three(5);
+    const struct plan good = two(A, B, DRIVE_ED1_SHARED), wide = three(5);
     const size_t last = make_sheet(&good).length - 1;
     struct plan p;
 
@@ -61,10 +105,11 @@ static void add_rows(struct rows *rows) {
     add(rows, 14, 384, &wide);
 }
 
-/* Length 0 goes with a null pointer. */
 static const size_t list_lengths[] = {0, 1, DRIVE_LIST_BYTES - 1, DRIVE_LIST_BYTES, DRIVE_LIST_BYTES + 1, DRIVE_LIST_BYTES + 5000};
 static const size_t answer_lengths[] = {0, 1, DRIVE_ANSWER_BYTES - 1, DRIVE_ANSWER_BYTES, DRIVE_ANSWER_BYTES + 1, 100};
-enum { LENGTHS = 6, LIST_ROOM = DRIVE_LIST_BYTES + 8192, ANSWER_ROOM = 4096 };
+static const size_t plan_lengths[] = {0, 1, DRIVE_PLAN_BYTES - 1, DRIVE_PLAN_BYTES, DRIVE_PLAN_BYTES + 1, 400};
+static const size_t length_lengths[] = {0, 1, DRIVE_LENGTH_BYTES - 1, DRIVE_LENGTH_BYTES, DRIVE_LENGTH_BYTES + 1, 100};
+enum { LENGTHS = 6, LIST_ROOM = DRIVE_LIST_BYTES + 8192, ROOM = 4096 };
 
 /* Case P2 of the bench table at demand 3: the answers and the list. */
 static const uint64_t p2_answer[] = {12, 9, 10, 4, 4};
@@ -83,48 +128,214 @@ static int answer_is(const uint8_t *answer, const uint64_t *want) {
     return a.total == want[0] && a.belief == want[1] && a.plausibility == want[2] && a.pairs == want[3] && a.intervals == want[4];
 }
 
-/* One call with these lengths, each buffer right behind an untouchable page or right before one. */
-static void try_lengths(const struct row *r, size_t list_length, size_t answer_length, int at_end, struct fence sheet_pages,
-                        struct fence list_pages, struct fence answer_pages) {
-    uint8_t *sheet = at_end ? up_to_end(sheet_pages, r->sheet.length) : from_start(sheet_pages);
-    uint8_t *list = at_end ? up_to_end(list_pages, list_length) : from_start(list_pages);
-    uint8_t *answer = at_end ? up_to_end(answer_pages, answer_length) : from_start(answer_pages);
-    size_t list_behind = at_end ? list_length : list_length + 64, answer_behind = at_end ? answer_length : answer_length + 64;
+/* One call of drive_bounds with these lengths. */
+static void try_bounds(const struct row *r, size_t list_length, size_t answer_length, int at_end, struct fence sheet_pages,
+                       struct fence list_pages, struct fence answer_pages) {
+    struct lent sheet = lend_bytes(sheet_pages, r->sheet.bytes, r->sheet.length, r->sheet.length, at_end);
+    struct lent list = lend(list_pages, list_length, at_end), answer = lend(answer_pages, answer_length, at_end);
     int fits = list_length >= DRIVE_LIST_BYTES && answer_length >= DRIVE_ANSWER_BYTES;
     uint32_t want = r->number >= 1 && r->number <= 11 ? r->number : fits ? r->number : 12;
     size_t list_from = 0, answer_from = 0;
 
-    memcpy(sheet, r->sheet.bytes, r->sheet.length);
-    mprotect(from_start(sheet_pages), sheet_pages.size, PROT_READ);
-    fill_marks(list, list_behind);
-    fill_marks(answer, answer_behind);
-    uint32_t got = drive_bounds(r->sheet.length != 0 ? sheet : NULL, r->sheet.length, 3, r->allowance, list_length != 0 ? list : NULL,
-                                list_length, answer_length != 0 ? answer : NULL, answer_length);
-    mprotect(from_start(sheet_pages), sheet_pages.size, PROT_READ | PROT_WRITE);
+    only_read(sheet_pages, 1);
+    uint32_t got = drive_bounds(pointer(sheet), sheet.length, 3, r->allowance, pointer(list), list_length, pointer(answer),
+                                answer_length);
+    only_read(sheet_pages, 0);
 
     EXPECT(got == want, "number %u, not %u, with list %zu, answer %zu", got, want, list_length, answer_length);
     if (answer_length >= DRIVE_ANSWER_BYTES) {
         answer_from = DRIVE_ANSWER_BYTES;
-        EXPECT(want == 0 ? answer_is(answer, p2_answer) : holds_zeros(answer, 0, answer_from), "answer of number %u", want);
+        EXPECT(want == 0 ? answer_is(answer.bytes, p2_answer) : holds_zeros(answer.bytes, 0, answer_from), "answer of number %u", want);
     }
     if (want == 0 || want == 13 || want == 14) {
         list_from = DRIVE_LIST_BYTES;
-        EXPECT(want == 0 ? list_is(list, p2_list, 4) : holds_zeros(list, 0, list_from), "list of number %u", want);
+        EXPECT(want == 0 ? list_is(list.bytes, p2_list, 4) : holds_zeros(list.bytes, 0, list_from), "list of number %u", want);
     }
-    EXPECT(holds_marks(answer, answer_from, answer_behind), "number %u touched the answer buffer", want);
-    EXPECT(holds_marks(list, list_from, list_behind), "number %u touched the list buffer", want);
+    EXPECT(holds_marks(answer.bytes, answer_from, answer.filled), "number %u touched the answer buffer", want);
+    EXPECT(holds_marks(list.bytes, list_from, list.filled), "number %u touched the list buffer", want);
 }
 
-static void test_numbers_and_lengths(void) {
+/* One call of drive_read_sheet with this length. What the run would refuse is read. */
+static void try_read(const struct row *r, size_t plan_length, int at_end, struct fence sheet_pages, struct fence plan_pages) {
+    struct lent sheet = lend_bytes(sheet_pages, r->sheet.bytes, r->sheet.length, r->sheet.length, at_end);
+    struct lent plan = lend(plan_pages, plan_length, at_end);
+    uint32_t refused = r->number <= 11 ? r->number : 0, want = refused == 0 && plan_length < DRIVE_PLAN_BYTES ? 12 : refused;
+    uint8_t bytes[DRIVE_PLAN_BYTES];
+    size_t from = 0;
+
+    only_read(sheet_pages, 1);
+    uint32_t got = drive_read_sheet(pointer(sheet), sheet.length, pointer(plan), plan_length);
+    only_read(sheet_pages, 0);
+
+    EXPECT(got == want, "reader: number %u, not %u, with plan %zu", got, want, plan_length);
+    if (plan_length >= DRIVE_PLAN_BYTES) {
+        from = DRIVE_PLAN_BYTES;
+        put_plan(&r->plan, bytes);
+        EXPECT(want == 0 ? memcmp(plan.bytes, bytes, from) == 0 : holds_zeros(plan.bytes, 0, from), "reader: plan of number %u", want);
+    }
+    EXPECT(holds_marks(plan.bytes, from, plan.filled), "reader: number %u touched the plan buffer", want);
+}
+
+static void test_sheets(void) {
     static struct rows rows;
-    struct fence sheet = make_fence(SHEET_ROOM), list = make_fence(LIST_ROOM), answer = make_fence(ANSWER_ROOM);
+    struct fence sheet = make_fence(SHEET_ROOM), list = make_fence(LIST_ROOM), answer = make_fence(ROOM), plan = make_fence(ROOM);
     add_rows(&rows);
     for (unsigned r = 0; r < rows.count; r++)
         for (unsigned i = 0; i < LENGTHS; i++)
             for (unsigned j = 0; j < LENGTHS; j++)
                 for (int at_end = 0; at_end < 2; at_end++)
-                    try_lengths(&rows.row[r], list_lengths[i], answer_lengths[j], at_end, sheet, list, answer);
-    finish("numbers 0 to 14, buffers of every length, nothing else touched");
+                    try_bounds(&rows.row[r], list_lengths[i], answer_lengths[j], at_end, sheet, list, answer);
+    finish("drive_bounds: numbers 0 to 14, buffers of every length, nothing else touched");
+    for (unsigned r = 0; r < rows.count; r++)
+        for (unsigned i = 0; i < LENGTHS; i++)
+            for (int at_end = 0; at_end < 2; at_end++) try_read(&rows.row[r], plan_lengths[i], at_end, sheet, plan);
+    finish("drive_read_sheet: numbers 0 to 12, buffers of every length, nothing else touched");
+}
+
+/* The fences of a call of drive_write_sheet. */
+struct write_pages {
+    struct fence plan, sheet, answer;
+};
+
+/* One call of drive_write_sheet with these lengths, on a plan that is refused with this number, or has this sheet. */
+static void try_write(const struct write_pages *pages, const uint8_t *plan_bytes, uint32_t refused, const struct sheet *s,
+                      size_t plan_length, size_t sheet_length, size_t answer_length, int at_end) {
+    struct lent plan = lend_bytes(pages->plan, plan_bytes, DRIVE_PLAN_BYTES, plan_length, at_end);
+    struct lent sheet = lend(pages->sheet, sheet_length, at_end), answer = lend(pages->answer, answer_length, at_end);
+    int no_answer = refused == 0 && answer_length < DRIVE_LENGTH_BYTES, no_room = refused == 0 && sheet_length < s->length;
+    uint32_t want = plan_length < DRIVE_PLAN_BYTES || no_answer ? 12 : no_room ? 15 : refused;
+    size_t written = want == 0 ? s->length : 0, answer_from = 0;
+
+    only_read(pages->plan, 1);
+    uint32_t got = drive_write_sheet(pointer(plan), plan_length, pointer(sheet), sheet_length, pointer(answer), answer_length);
+    only_read(pages->plan, 0);
+
+    EXPECT(got == want, "writer: number %u, not %u, with plan %zu, sheet %zu, answer %zu", got, want, plan_length, sheet_length,
+           answer_length);
+    if (want != 12 && answer_length >= DRIVE_LENGTH_BYTES) {
+        answer_from = DRIVE_LENGTH_BYTES;
+        EXPECT(drive_read_length(answer.bytes) == written, "writer: length of number %u", want);
+    }
+    EXPECT(memcmp(sheet.bytes, s->bytes, written) == 0, "writer: another sheet");
+    EXPECT(holds_marks(sheet.bytes, written, sheet.filled), "writer: number %u touched the sheet buffer", want);
+    EXPECT(holds_marks(answer.bytes, answer_from, answer.filled), "writer: number %u touched the answer buffer", want);
+}
+
+/* With buffers of every length; `s` is the sheet, or one that is about as long. */
+static void try_write_lengths(const struct write_pages *pages, const uint8_t *plan, uint32_t refused, const struct sheet *s) {
+    const size_t sheet_lengths[LENGTHS] = {0, 1, s->length - 1, s->length, s->length + 1, SHEET_ROOM};
+    for (unsigned i = 0; i < LENGTHS; i++)
+        for (unsigned j = 0; j < LENGTHS; j++)
+            for (unsigned k = 0; k < LENGTHS; k++)
+                for (int at_end = 0; at_end < 2; at_end++)
+                    try_write(pages, plan, refused, s, plan_lengths[i], sheet_lengths[j], length_lengths[k], at_end);
+}
+
+static void try_write_plan(const struct write_pages *pages, const struct plan *p, uint32_t refused, const struct sheet *s) {
+    uint8_t bytes[DRIVE_PLAN_BYTES];
+    put_plan(p, bytes);
+    try_write_lengths(pages, bytes, refused, s);
+}
+
+/* One number of the plan "A and B, shared" changed, and what the writer then answers. */
+static const struct {
+    uint32_t number;
+    unsigned place, value;
+} changes[] = {
+    /* n; k of A and of B; T of A and of B */
+    {3, 0, 0}, {3, 0, 7}, {3, 0, 256 + 2}, {3, 0, 65535},
+    {4, 1, 0}, {4, 27, 9}, {4, 27, 256 + 2}, {4, 1, 65535},
+    {6, 2, 0}, {6, 28, 1001}, {6, 28, 1024 + 3}, {6, 2, 65535}, {8, 2, 5},
+    /* the second low and the second high of A and of B; weights */
+    {7, 4, 4}, {7, 30, 0}, {7, 4, 4096 + 2},
+    {7, 12, 4096}, {7, 38, 1}, {7, 12, 4096 + 3}, {7, 38, 65535},
+    {7, 20, 0}, {8, 20, 2}, {8, 19, 2}, {8, 19, 1024 + 1}, {8, 46, 65535},
+    /* entries */
+    {9, 159, 6}, {9, 159, 7}, {9, 159, 11}, {9, 159, 15}, {9, 159, 16}, {9, 158, 2}, {9, 158, 256 + 1}, {9, 159, 256 + 9},
+    {9, 157, 65535}, {10, 158, 0}, {10, 157, 9}, {10, 158, 8},
+};
+
+/* Breaks one rule of "A and B, shared"; from 11 down to 3 each can be broken with those above it. */
+static void break_rule(struct plan *p, uint32_t number) {
+    static const uint16_t join_first[3] = {DRIVE_ED1_SHARED, 0, 1};
+    switch (number) {
+    case 3: p->components = 7; break;
+    case 4: p->component[0].count = 9; break;
+    case 6: p->component[1].total = 1001; break;
+    case 7: p->component[0].focal[1].high = 1; break;
+    case 8: p->component[1].focal[0].weight++; break;
+    case 9: p->entry[2] = 256 + 9; break;
+    case 10:
+        for (unsigned i = 0; i < 3; i++) p->entry[i] = p->entry[i] == 1 ? 0 : p->entry[i];
+        break;
+    default: memcpy(p->entry, join_first, sizeof join_first); break;
+    }
+}
+
+/* The plan with every place that is not in use filled. */
+static struct plan with_rubbish(struct plan p) {
+    static const struct focal rubbish = {65535, 7, 300};
+    for (unsigned i = 0; i < DRIVE_MODULES_MAX; i++) {
+        if (i >= p.components) p.component[i].count = p.component[i].total = 9 + i;
+        for (unsigned j = i < p.components ? p.component[i].count : 0; j < DRIVE_MODULE_INTERVALS_MAX; j++)
+            p.component[i].focal[j] = rubbish;
+    }
+    for (unsigned i = 2 * p.components - 1; i < DRIVE_ENTRIES_MAX; i++) p.entry[i] = (uint16_t)(7 + 100 * i);
+    return p;
+}
+
+static void test_writer(void) {
+    static const uint32_t rules[] = {3, 4, 6, 7, 8, 9, 10, 11};
+    struct write_pages pages = {make_fence(ROOM), make_fence(ROOM), make_fence(ROOM)};
+    const struct plan good = two(A, B, DRIVE_ED1_SHARED), full = longest(), rubbish = with_rubbish(good);
+    const struct sheet sheet = make_sheet(&good), full_sheet = make_sheet(&full);
+    uint8_t bytes[DRIVE_PLAN_BYTES];
+    struct plan p;
+
+    try_write_plan(&pages, &good, 0, &sheet);
+    try_write_plan(&pages, &rubbish, 0, &sheet);
+    try_write_plan(&pages, &full, 0, &full_sheet);
+    for (size_t i = 0; i < sizeof changes / sizeof *changes; i++) {
+        put_plan(&good, bytes);
+        bytes[2 * changes[i].place] = (uint8_t)(changes[i].value / 256);
+        bytes[2 * changes[i].place + 1] = (uint8_t)(changes[i].value % 256);
+        try_write_lengths(&pages, bytes, changes[i].number, &sheet);
+    }
+    p = good, p.component[0].focal[0].weight = 65535, p.component[0].focal[1].weight = 5; /* 65,536 above T */
+    try_write_plan(&pages, &p, 8, &sheet);
+    p = good, p.entry[1] = DRIVE_ED1_SHARED, p.entry[2] = 1; /* the join one place early */
+    try_write_plan(&pages, &p, 11, &sheet);
+    finish("drive_write_sheet: every number that it has, buffers of every length, nothing else touched");
+
+    for (unsigned i = 0; i < 8; i++) {
+        for (unsigned j = 0; j <= i; j++) {
+            p = good;
+            break_rule(&p, rules[i]);
+            if (j < i) break_rule(&p, rules[j]);
+            try_write_plan(&pages, &p, rules[j], &sheet);
+        }
+    }
+    finish("drive_write_sheet: of two broken rules the first gives the number");
+}
+
+/* What is written reads back, and what is read is written back byte for byte. */
+static void test_round_trips(void) {
+    const struct plan plans[] = {two(A, B, DRIVE_ED1_SERIES), two(W0, W1, DRIVE_ED1_SPARE), three(5), widest(), longest()};
+    uint8_t want[DRIVE_PLAN_BYTES], rubbish[DRIVE_PLAN_BYTES], plan[DRIVE_PLAN_BYTES], length[DRIVE_LENGTH_BYTES];
+    uint8_t sheet[DRIVE_SHEET_BYTES_MAX], again[DRIVE_SHEET_BYTES_MAX];
+    for (size_t i = 0; i < sizeof plans / sizeof *plans; i++) {
+        struct plan p = with_rubbish(plans[i]);
+        struct sheet s = make_sheet(&plans[i]);
+        put_plan(&plans[i], want);
+        put_plan(&p, rubbish);
+        uint32_t number = drive_write_sheet(rubbish, sizeof rubbish, sheet, sizeof sheet, length, sizeof length);
+        EXPECT(number == 0 && drive_read_length(length) == s.length && memcmp(sheet, s.bytes, s.length) == 0, "plan %zu written", i);
+        number = drive_read_sheet(sheet, s.length, plan, sizeof plan);
+        EXPECT(number == 0 && memcmp(plan, want, sizeof plan) == 0, "plan %zu read back", i);
+        number = drive_write_sheet(plan, sizeof plan, again, sizeof again, length, sizeof length);
+        EXPECT(number == 0 && memcmp(again, sheet, s.length) == 0, "plan %zu written again", i);
+    }
+    finish("plans written and read back, sheets read and written back");
 }
 
 /* One row of the bench table. */
@@ -143,19 +354,20 @@ static void test_bench_table(void) {
     static const struct drive_interval p1[] = {{0, 0, 3}, {1, 1, 6}, {1, 3, 3}};
     static const struct drive_interval p6[] = {{1, 1, 2}, {1, 4, 1}, {2, 3, 6}, {2, 4, 3}};
     static const struct drive_interval p7[] = {{0, 4, 2000}, {0, 6, 5360}, {3, 8, 2211}, {7, 10, 429}};
-    static const uint64_t at_2[] = {12, 0, 3, 4, 3}, at_7[] = {12, 0, 3, 4, 4}, at_8[] = {12, 0, 0, 4, 4}, at_0[] = {12, 12, 12, 4, 4};
+    static const uint64_t at_2[] = {12, 0, 3, 4, 3}, at_7[] = {12, 0, 3, 4, 4}, at_8[] = {12, 0, 0, 4, 4};
+    static const uint64_t at_0[] = {12, 12, 12, 4, 4};
     static const uint64_t spare_at_2[] = {12, 9, 10, 4, 4}, w_at_7[] = {10000, 429, 2640, 6, 4}, d4[] = {256, 56, 56, 320, 256};
     static const uint64_t t_1000[] = {1000, 1000, 1000, 0, 1};
     struct component c = {1000, 1, {{5, 9, 1000}}};
-    uint8_t only[1] = {0};
-    struct plan shared = two(A, B, SHARED), t;
-    bench_row("P1", two(A, B, SERIES), 2, 1000, 0, at_2, p1);
+    uint16_t only[1] = {0};
+    struct plan shared = two(A, B, DRIVE_ED1_SHARED), t;
+    bench_row("P1", two(A, B, DRIVE_ED1_SERIES), 2, 1000, 0, at_2, p1);
     bench_row("P2, P3", shared, 3, 1000, 0, p2_answer, p2_list);
     bench_row("P4, demand 7", shared, 7, 1000, 0, at_7, p2_list);
     bench_row("P4, demand 8", shared, 8, 1000, 0, at_8, p2_list);
     bench_row("P5", shared, 0, 1000, 0, at_0, p2_list);
-    bench_row("P6", two(A, B, SPARE), 2, 1000, 0, spare_at_2, p6);
-    bench_row("P7, P8", two(W0, W1, SERIES), 7, 1000, 0, w_at_7, p7);
+    bench_row("P6", two(A, B, DRIVE_ED1_SPARE), 2, 1000, 0, spare_at_2, p6);
+    bench_row("P7, P8", two(W0, W1, DRIVE_ED1_SERIES), 7, 1000, 0, w_at_7, p7);
     bench_row("P9, allowance 4", shared, 3, 4, 0, p2_answer, p2_list);
     bench_row("P9, allowance 3", shared, 3, 3, 13, NULL, NULL);
     bench_row("D1, D2, D3 with 4", three(4), 200, 1000, 0, d4, NULL);
@@ -171,17 +383,7 @@ static void test_bench_table(void) {
 /* The most that a sheet can ask for: the longest sheet, the largest total, the largest demand, the most pairs. */
 static void test_ends(void) {
     static uint8_t list[DRIVE_LIST_BYTES], answer[DRIVE_ANSWER_BYTES];
-    static const uint8_t entry[] = {0, 1, SHARED, 2, SHARED, 3, SHARED, 4, SHARED, 5, SHARED};
-    struct component full[COMPONENTS];
-    for (unsigned i = 0; i < COMPONENTS; i++) {
-        full[i].total = 1000;
-        full[i].count = FOCALS;
-        for (unsigned j = 0; j < FOCALS; j++) {
-            full[i].focal[j].low = full[i].focal[j].high = 4088 + j;
-            full[i].focal[j].weight = 125;
-        }
-    }
-    struct plan p = make_plan(COMPONENTS, full, entry);
+    struct plan p = longest();
     struct sheet s = make_sheet(&p);
     struct drive_answer a;
     uint32_t got = drive_bounds(s.bytes, s.length, 24570, UINT32_MAX, list, sizeof list, answer, sizeof answer);
@@ -199,7 +401,7 @@ static void test_ends(void) {
     s = make_sheet(&p);
     got = drive_bounds(s.bytes, s.length, 255, DRIVE_PAIRS_MAX, list, sizeof list, answer, sizeof answer);
     a = drive_read_answer(answer);
-    EXPECT(got == 0 && a.pairs == DRIVE_PAIRS_MAX && a.intervals == DRIVE_INTERVALS_MAX, "number %u, %llu pairs", got,
+    EXPECT(got == 0 && a.pairs == DRIVE_PAIRS_MAX && a.intervals == DRIVE_LIST_INTERVALS_MAX, "number %u, %llu pairs", got,
            (unsigned long long)a.pairs);
     EXPECT(a.total == 262144 && a.belief == 1, "the share at the greatest speed of the most pairs");
     got = drive_bounds(s.bytes, s.length, 255, DRIVE_PAIRS_MAX - 1, list, sizeof list, answer, sizeof answer);
@@ -208,15 +410,17 @@ static void test_ends(void) {
 }
 
 static void test_messages(void) {
-    EXPECT(DRIVE_NUMBER_COUNT == 16 && DRIVE_WRITER_BUFFER == 15, "the numbers are 0 to 15");
+    EXPECT(DRIVE_NUMBER_COUNT == 16 && DRIVE_E_SHEET_BUFFER == 15, "the numbers are 0 to 15");
     EXPECT(strcmp(drive_message(DRIVE_ACCEPTED), "accepted") == 0, "the words for 0");
-    EXPECT(strcmp(drive_message(DRIVE_EDITION), "the edition is not 1") == 0, "the words for 2");
+    EXPECT(strcmp(drive_message(DRIVE_E_EDITION), "the sheet's edition is not 1") == 0, "the words for 2");
     EXPECT(strcmp(drive_message(16), "no such number") == 0 && strcmp(drive_message(UINT32_MAX), "no such number") == 0, "others");
     finish("the words for each number");
 }
 
 int main(void) {
-    test_numbers_and_lengths();
+    test_sheets();
+    test_writer();
+    test_round_trips();
     test_bench_table();
     test_ends();
     test_messages();

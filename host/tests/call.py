@@ -1,4 +1,4 @@
-"""The call from Python, against the sum over all choices of one interval per component.
+"""The calls from Python: drive_bounds against the sum over all choices of one interval per component, and every sheet read and written.
 
 call.py LIBRARY: the archive as a shared library.
 """
@@ -9,16 +9,20 @@ import sys
 from collections import Counter
 from math import prod
 
-LIST_BYTES, ANSWER_BYTES, PAIRS_MAX = 16384, 40, 66688
+LIST_BYTES, ANSWER_BYTES, PAIRS_MAX, PLAN_BYTES, LENGTH_BYTES, SHEET_BYTES = 16384, 40, 66688, 336, 8, 224
 SERIES, SHARED, SPARE = 8, 9, 10
 JOIN = {SERIES: min, SHARED: lambda x, y: x + y, SPARE: max}
 
-drive_bounds = ctypes.CDLL(sys.argv[1]).drive_bounds
-drive_bounds.restype = ctypes.c_uint32
+library = ctypes.CDLL(sys.argv[1])
+drive_bounds, write_sheet, read_sheet_call = library.drive_bounds, library.drive_write_sheet, library.drive_read_sheet
+for function in drive_bounds, write_sheet, read_sheet_call:
+    function.restype = ctypes.c_uint32
 drive_bounds.argtypes = [
     ctypes.c_char_p, ctypes.c_size_t, ctypes.c_uint32, ctypes.c_uint32,
     ctypes.c_char_p, ctypes.c_size_t, ctypes.c_char_p, ctypes.c_size_t,
 ]
+write_sheet.argtypes = 3 * [ctypes.c_char_p, ctypes.c_size_t]
+read_sheet_call.argtypes = 2 * [ctypes.c_char_p, ctypes.c_size_t]
 
 
 def call(sheet, demand, allowance, list_length=LIST_BYTES, answer_length=ANSWER_BYTES):
@@ -28,6 +32,35 @@ def call(sheet, demand, allowance, list_length=LIST_BYTES, answer_length=ANSWER_
     store, answer = (b.raw for b in buffers)
     assert store[list_length:] == answer[answer_length:] == b"\xee" * 16, "bytes behind a buffer"
     return number, store[:list_length], answer[:answer_length]
+
+
+def lent(length):
+    return ctypes.create_string_buffer(b"\xee" * (length + 16), length + 16)
+
+
+def write(plan, sheet_length=SHEET_BYTES, answer_length=LENGTH_BYTES):
+    """The writer's number, and the buffers of sheet and answer with 16 bytes behind."""
+    sheet, answer = lent(sheet_length), lent(answer_length)
+    number = write_sheet(plan, len(plan), sheet, sheet_length, answer, answer_length)
+    return number, sheet.raw, answer.raw
+
+
+def read(sheet, plan_length=PLAN_BYTES):
+    plan = lent(plan_length)
+    return read_sheet_call(sheet, len(sheet), plan, plan_length), plan.raw
+
+
+def make_plan(components, entries):
+    """The plan's bytes: every number in two, places that are not used zero."""
+    def places(values, count):
+        return [*values, *[0] * (count - len(values))]
+
+    numbers = [len(components)]
+    for total, focal in components:
+        lows, highs, weights = zip(*focal)
+        numbers += [len(focal), total, *places(lows, 8), *places(highs, 8), *places(weights, 8)]
+    numbers = places(numbers, 157) + places(entries, 11)
+    return b"".join(number.to_bytes(2, "big") for number in numbers)
 
 
 def make_sheet(components, entries):
@@ -147,6 +180,19 @@ def compare(sheet, demand, allowance):
     return number
 
 
+def round_trip(sheet):
+    """Reads a sheet; what is accepted is written back as the same bytes."""
+    behind = b"\xee" * 16
+    number, values = read_sheet(sheet)
+    plan = bytes(PLAN_BYTES) if number != 0 else make_plan(*values)
+    assert read(sheet) == (number, plan + behind), f"the reader on {sheet.hex()}"
+    if number == 0:
+        rest = b"\xee" * (SHEET_BYTES - len(sheet)) + behind
+        assert write(plan) == (0, sheet + rest, len(sheet).to_bytes(8, "big") + behind), f"the writer on {plan.hex()}"
+        refused = (15, b"\xee" * (len(sheet) - 1) + behind, bytes(8) + behind)
+        assert write(plan, sheet_length=len(sheet) - 1) == refused, "a short sheet buffer"
+
+
 def random_sheet(r):
     """A sheet with few choices: valid, or with another T, other entries or some bits changed."""
     n, fastest, components = r.randint(1, 6), r.choice([3, 20, 300, 4095]), []
@@ -180,15 +226,22 @@ def main():
         answer = bytes(ANSWER_BYTES) if answer_length == ANSWER_BYTES else b"\xee" * answer_length
         assert call(w, 7, 6, list_length, answer_length) == (12, b"\xee" * list_length, answer), "short buffers"
     assert drive_bounds(None, 0, 0, 0, None, 0, None, 0) == 1 and drive_bounds(w, len(w), 0, 0, None, 0, None, 0) == 12, "null"
+    assert write_sheet(None, 0, None, 0, None, 0) == 12 and read_sheet_call(None, 0, None, 0) == 1, "null"
+    assert read(w, PLAN_BYTES - 1) == (12, b"\xee" * (PLAN_BYTES + 15)), "a short plan buffer"
+    plan = read(w)[1][:PLAN_BYTES]
+    assert write(plan[:-1]) == (12, b"\xee" * (SHEET_BYTES + 16), b"\xee" * 24), "a short plan"
+    assert write(plan, answer_length=7) == (12, b"\xee" * (SHEET_BYTES + 16), b"\xee" * 23), "a short answer buffer"
+    assert write(bytes(PLAN_BYTES)) == (3, b"\xee" * (SHEET_BYTES + 16), bytes(8) + b"\xee" * 16), "an empty plan"
     print("ok Python: one sheet, short buffers, null pointers")
 
     r, met = random.Random(20), Counter()
     for _ in range(8000):
         sheet = random_sheet(r)
+        round_trip(sheet)
         met[compare(sheet, r.choice([r.randint(0, 30), r.randint(0, 5000)]), r.choice([PAIRS_MAX, r.randint(0, 60)]))] += 1
     missing = set(range(15)) - {12} - set(met)
     assert not missing, f"numbers never met: {missing}"
-    print(f"ok Python: {sum(met.values())} random sheets against the sum over all choices")
+    print(f"ok Python: {sum(met.values())} random sheets against the sum over all choices, read and written back")
 
 
 main()

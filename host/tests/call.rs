@@ -1,14 +1,20 @@
-//! The call from Rust: the archive linked statically, its buffers as slices.
+//! The calls from Rust: the archive linked statically, its buffers as slices.
 
 extern "C" {
     fn drive_bounds(
         sheet: *const u8, sheet_length: usize, demand: u32, allowance: u32,
         list: *mut u8, list_length: usize, answer: *mut u8, answer_length: usize,
     ) -> u32;
+    fn drive_write_sheet(
+        plan: *const u8, plan_length: usize, sheet: *mut u8, sheet_length: usize, answer: *mut u8, answer_length: usize,
+    ) -> u32;
+    fn drive_read_sheet(sheet: *const u8, sheet_length: usize, plan: *mut u8, plan_length: usize) -> u32;
 }
 
 const LIST_BYTES: usize = 16384;
 const ANSWER_BYTES: usize = 40;
+const PLAN_BYTES: usize = 336;
+const LENGTH_BYTES: usize = 8;
 
 /// Two modules in series, T 100 each: [0,4] 20, [3,8] 67, [7,10] 13 and [0,6] 67, [8,10] 33.
 const W: [u8; 30] = [
@@ -26,6 +32,34 @@ fn call(sheet: &[u8], demand: u32, allowance: u32, list: &mut [u8], answer: &mut
             list.as_mut_ptr(), list.len(), answer.as_mut_ptr(), answer.len(),
         )
     }
+}
+
+fn write(plan: &[u8], sheet: &mut [u8], answer: &mut [u8]) -> u32 {
+    // Safety: as above.
+    unsafe {
+        drive_write_sheet(plan.as_ptr(), plan.len(), sheet.as_mut_ptr(), sheet.len(), answer.as_mut_ptr(), answer.len())
+    }
+}
+
+fn read(sheet: &[u8], plan: &mut [u8]) -> u32 {
+    // Safety: as above.
+    unsafe { drive_read_sheet(sheet.as_ptr(), sheet.len(), plan.as_mut_ptr(), plan.len()) }
+}
+
+/// The plan of W, each number in two bytes.
+fn plan_of_w() -> Vec<u8> {
+    let mut numbers = vec![0u16; PLAN_BYTES / 2];
+    numbers[0] = 2;
+    numbers[1..3].copy_from_slice(&[3, 100]);
+    numbers[3..6].copy_from_slice(&[0, 3, 7]);
+    numbers[11..14].copy_from_slice(&[4, 8, 10]);
+    numbers[19..22].copy_from_slice(&[20, 67, 13]);
+    numbers[27..29].copy_from_slice(&[2, 100]);
+    numbers[29..31].copy_from_slice(&[0, 8]);
+    numbers[37..39].copy_from_slice(&[6, 10]);
+    numbers[45..47].copy_from_slice(&[67, 33]);
+    numbers[157..160].copy_from_slice(&[0, 1, 8]);
+    numbers.iter().flat_map(|n| n.to_be_bytes()).collect()
 }
 
 fn number(bytes: &[u8]) -> u64 {
@@ -59,4 +93,29 @@ fn main() {
     assert_eq!(call(&W, 7, 6, &mut list[..LIST_BYTES - 1], &mut answer), 12);
     assert!(list.iter().all(|byte| *byte == 0xEE) && answers(&answer) == [0; 5]);
     println!("ok Rust: refusals and short slices");
+
+    let mut plan = plan_of_w();
+    let mut sheet = vec![0xEE; W.len() + 3];
+    let mut length = vec![0xEE; LENGTH_BYTES + 3];
+    assert_eq!(write(&plan, &mut sheet, &mut length), 0);
+    assert_eq!(sheet[..W.len()], W);
+    assert_eq!(number(&length[..LENGTH_BYTES]), W.len() as u64);
+    assert!(sheet[W.len()..].iter().chain(&length[LENGTH_BYTES..]).all(|byte| *byte == 0xEE));
+    let mut read_back = vec![0xEE; PLAN_BYTES + 3];
+    assert_eq!(read(&W, &mut read_back), 0);
+    assert!(read_back[..PLAN_BYTES] == plan && read_back[PLAN_BYTES..].iter().all(|byte| *byte == 0xEE));
+    println!("ok Rust: a plan written and read back");
+
+    assert_eq!(read(&W[..29], &mut read_back), 1);
+    assert!(read_back[..PLAN_BYTES].iter().all(|byte| *byte == 0));
+    assert_eq!(read(&W, &mut read_back[..PLAN_BYTES - 1]), 12);
+    sheet.fill(0xEE);
+    assert_eq!(write(&plan[..PLAN_BYTES - 1], &mut sheet, &mut length), 12);
+    assert_eq!(number(&length[..LENGTH_BYTES]), W.len() as u64);
+    assert_eq!(write(&plan, &mut sheet[..W.len() - 1], &mut length), 15);
+    assert_eq!(number(&length[..LENGTH_BYTES]), 0);
+    plan[2 * 159] = 1; // the last entry is 256 + 8
+    assert_eq!(write(&plan, &mut sheet, &mut []), 9);
+    assert!(sheet.iter().all(|byte| *byte == 0xEE));
+    println!("ok Rust: refusals of the writer and the reader");
 }

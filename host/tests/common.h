@@ -16,7 +16,7 @@
 /* The signature of drive_bounds, for what is called in its place. */
 typedef uint32_t bounds_fn(const uint8_t *, size_t, uint32_t, uint32_t, uint8_t *, size_t, uint8_t *, size_t);
 
-enum { COMPONENTS = 6, FOCALS = 8, ENTRIES = 2 * COMPONENTS - 1, SERIES = 8, SHARED = 9, SPARE = 10, SHEET_ROOM = 300 };
+enum { SHEET_ROOM = 300 };
 
 /* What a sheet says, as values. Places of a component and entries that are not used stay out of the sheet. */
 struct focal {
@@ -24,12 +24,12 @@ struct focal {
 };
 struct component {
     unsigned total, count;
-    struct focal focal[FOCALS];
+    struct focal focal[DRIVE_MODULE_INTERVALS_MAX];
 };
 struct plan {
     unsigned components;
-    struct component component[COMPONENTS];
-    uint8_t entry[ENTRIES];
+    struct component component[DRIVE_MODULES_MAX];
+    uint16_t entry[DRIVE_ENTRIES_MAX];
 };
 struct sheet {
     size_t length;
@@ -65,6 +65,25 @@ static inline struct sheet make_sheet(const struct plan *p) {
     return s;
 }
 
+/* The bytes of a plan, whether its values obey the rules or not: every place is filled. */
+static inline void put_plan(const struct plan *p, uint8_t *bytes) {
+    unsigned number[DRIVE_PLAN_BYTES / 2], at = 0;
+    number[at++] = p->components;
+    for (unsigned i = 0; i < DRIVE_MODULES_MAX; i++) {
+        const struct component *c = &p->component[i];
+        number[at++] = c->count;
+        number[at++] = c->total;
+        for (unsigned j = 0; j < DRIVE_MODULE_INTERVALS_MAX; j++) number[at++] = c->focal[j].low;
+        for (unsigned j = 0; j < DRIVE_MODULE_INTERVALS_MAX; j++) number[at++] = c->focal[j].high;
+        for (unsigned j = 0; j < DRIVE_MODULE_INTERVALS_MAX; j++) number[at++] = c->focal[j].weight;
+    }
+    for (unsigned i = 0; i < DRIVE_ENTRIES_MAX; i++) number[at++] = p->entry[i];
+    for (unsigned i = 0; i < at; i++) {
+        bytes[2 * i] = (uint8_t)(number[i] / 256);
+        bytes[2 * i + 1] = (uint8_t)(number[i] % 256);
+    }
+}
+
 /* `count` single speeds, step apart from 0 on, weight 1 each. */
 static inline struct component speeds(unsigned count, unsigned step) {
     struct component c;
@@ -78,12 +97,12 @@ static inline struct component speeds(unsigned count, unsigned step) {
 }
 
 /* The plan with these components and this structure. */
-static inline struct plan make_plan(unsigned components, const struct component *component, const uint8_t *entry) {
+static inline struct plan make_plan(unsigned components, const struct component *component, const uint16_t *entry) {
     struct plan p;
     memset(&p, 0, sizeof p);
     p.components = components;
     memcpy(p.component, component, components * sizeof *component);
-    memcpy(p.entry, entry, 2 * components - 1);
+    memcpy(p.entry, entry, (2 * components - 1) * sizeof *entry);
     return p;
 }
 
@@ -96,7 +115,7 @@ static const struct component W1 = {100, 2, {{0, 6, 67}, {8, 10, 33}}};
 /* Two components and a join. */
 static inline struct plan two(struct component x, struct component y, unsigned join) {
     struct component c[2];
-    uint8_t entry[3] = {0, 1, (uint8_t)join};
+    uint16_t entry[3] = {0, 1, (uint16_t)join};
     c[0] = x;
     c[1] = y;
     return make_plan(2, c, entry);
@@ -104,7 +123,7 @@ static inline struct plan two(struct component x, struct component y, unsigned j
 
 /* The bench table's D1, D2 and the first `third` speeds of D3: third times 64 speeds, evenly spaced. */
 static inline struct plan three(unsigned third) {
-    static const uint8_t entry[5] = {0, 1, SHARED, 2, SHARED};
+    static const uint16_t entry[5] = {0, 1, DRIVE_ED1_SHARED, 2, DRIVE_ED1_SHARED};
     struct component c[3];
     c[0] = speeds(8, 1);
     c[1] = speeds(8, 8);
@@ -115,17 +134,17 @@ static inline struct plan three(unsigned third) {
 /* Two groups of three modules, each group as above, then joined. */
 static inline struct plan two_groups(unsigned third, unsigned join) {
     struct plan p = three(third);
-    static const uint8_t entry[10] = {0, 1, SHARED, 2, SHARED, 3, 4, SHARED, 5, SHARED};
+    static const uint16_t entry[10] = {0, 1, DRIVE_ED1_SHARED, 2, DRIVE_ED1_SHARED, 3, 4, DRIVE_ED1_SHARED, 5, DRIVE_ED1_SHARED};
     p.components = 6;
     memcpy(&p.component[3], &p.component[0], 3 * sizeof p.component[0]);
     memcpy(p.entry, entry, sizeof entry);
-    p.entry[10] = (uint8_t)join;
+    p.entry[10] = (uint16_t)join;
     return p;
 }
 
 /* The most pairs that a sheet can form: both groups have 64 and 512 pairs for their 256 speeds, and the last join 65,536. */
 static inline struct plan widest(void) {
-    struct plan p = two_groups(1, SERIES);
+    struct plan p = two_groups(1, DRIVE_ED1_SERIES);
     p.component[2] = speeds(8, 27);
     p.component[2].focal[7].low = p.component[2].focal[7].high = 192;
     p.component[5] = p.component[2];
@@ -170,7 +189,7 @@ static inline int holds_zeros(const uint8_t *bytes, size_t from, size_t to) {
     return from == to;
 }
 
-/* One line for each test: 'ok NAME', or what went wrong. */
+/* One line for each test: 'ok NAME', or what went wrong, the first times. */
 #ifdef __cplusplus
 #define LANGUAGE "C++"
 #else
@@ -180,8 +199,7 @@ static int failures, failures_before;
 
 #define EXPECT(condition, ...) \
     do { \
-        if (!(condition)) { \
-            failures++; \
+        if (!(condition) && ++failures <= failures_before + 10) { \
             printf("FAILED at %s:%d: ", __FILE__, __LINE__); \
             printf(__VA_ARGS__); \
             printf("\n"); \
@@ -189,7 +207,10 @@ static int failures, failures_before;
     } while (0)
 
 static inline void finish(const char *name) {
-    if (failures == failures_before) printf("ok " LANGUAGE ": %s\n", name);
+    if (failures == failures_before)
+        printf("ok " LANGUAGE ": %s\n", name);
+    else
+        printf("FAILED " LANGUAGE ": %s: %d times\n", name, failures - failures_before);
     failures_before = failures;
     fflush(stdout);
 }

@@ -13,7 +13,7 @@ static int after(struct focal x, struct focal y) { return x.low > y.low || (x.lo
 /* Different intervals of speeds up to `fastest`, in order, with weights that add to the total. */
 static struct component random_component(unsigned fastest) {
     struct component c;
-    unsigned wanted = between(1, FOCALS), left;
+    unsigned wanted = between(1, DRIVE_MODULE_INTERVALS_MAX), left;
     memset(&c, 0, sizeof c);
     for (unsigned i = 0; i < wanted; i++) {
         struct focal f;
@@ -40,9 +40,9 @@ static struct component random_component(unsigned fastest) {
 static struct plan random_plan(void) {
     static const unsigned fastest[] = {3, 20, 300, 4095};
     struct plan p;
-    unsigned left, depth = 0, limit = fastest[random_below(4)], order[COMPONENTS];
+    unsigned left, depth = 0, limit = fastest[random_below(4)], order[DRIVE_MODULES_MAX];
     memset(&p, 0, sizeof p);
-    p.components = left = between(1, COMPONENTS);
+    p.components = left = between(1, DRIVE_MODULES_MAX);
     for (unsigned i = 0; i < p.components; i++) {
         unsigned j = random_below(i + 1);
         order[i] = order[j];
@@ -51,10 +51,10 @@ static struct plan random_plan(void) {
     }
     for (unsigned i = 0; i + 1 < 2 * p.components; i++) {
         if (left > 0 && (depth < 2 || random_below(2) == 0)) {
-            p.entry[i] = (uint8_t)order[--left];
+            p.entry[i] = (uint16_t)order[--left];
             depth++;
         } else {
-            p.entry[i] = (uint8_t)between(SERIES, SPARE);
+            p.entry[i] = (uint16_t)between(DRIVE_ED1_SERIES, DRIVE_ED1_SPARE);
             depth--;
         }
     }
@@ -66,7 +66,7 @@ static void damage_plan(struct plan *p) {
     struct component *c = &p->component[random_below(p->components)];
     struct focal *f = &c->focal[random_below(c->count)], swap;
     unsigned entries = 2 * p->components - 1, x = random_below(entries), y = random_below(entries);
-    uint8_t entry = p->entry[x];
+    uint16_t entry = p->entry[x];
     switch (random_below(10)) {
     case 0: c->total = random_below(2) == 0 ? 0 : between(1001, 1023); break;
     case 1: f->weight = 0; break;
@@ -75,7 +75,7 @@ static void damage_plan(struct plan *p) {
     case 4: f->high = random_below(4096); break;
     case 5: swap = c->focal[0], c->focal[0] = *f, *f = swap; break;
     case 6: c->total = between(1, 1000); break;
-    case 7: p->entry[x] = (uint8_t)random_below(16); break;
+    case 7: p->entry[x] = (uint16_t)random_below(16); break;
     case 8: p->entry[x] = p->entry[y], p->entry[y] = entry; break;
     default: p->entry[x] = p->entry[y]; break;
     }
