@@ -1,10 +1,8 @@
 -- The call for C hosts, by whether the answer buffer is too short: the statement of specs/Call.antt. Assumes nothing.
 use Prim.Native.Nat.{ℕ, _≤_, _<_}
 use mathlib.Core.Path.{_≡_, refl, ap, _∙_}
-use mathlib.Core.Bool.{Bool, true, false, cond}
 use mathlib.Core.List.{List, [], _++_, append-assoc}
 use native.Mathlib.Omega.{arith}
-use lib.Dec.{ltb}
 use lib.ListN.{length, drop, length-append}
 use lib.Seq.{drop-at}
 use borrow.Author.Tests.{lt-ltb, le-ltb}
@@ -29,22 +27,16 @@ length-answer a = simp (length-append, length-bigEndian)
 
 module _ (sheet : List ℕ) (demand allowance : ℕ) (list buffer : List ℕ) where
   -- What the three definitions come to, by whether the answer buffer is too short.
-  abbrev By : Bool → Type 0
-  By b =
-      (numberReturned sheet demand allowance list buffer ≡ (answer sheet demand allowance (cond b 0 (length list))) .number)
-      × (listAfter sheet allowance list buffer ≡ cond b list (storeAfter sheet allowance list))
-      × (answerAfter sheet demand allowance list buffer
-      ≡ cond b buffer (encodeAnswer (answer sheet demand allowance (cond b 0 (length list))) ++ drop answerBytes buffer))
-
-  by-length : By (ltb (length buffer) answerBytes)
+  pub too-short : length buffer < answerBytes → (numberReturned sheet demand allowance list buffer ≡ (answer sheet demand allowance 0) .number)
+      × (listAfter sheet allowance list buffer ≡ list) × (answerAfter sheet demand allowance list buffer ≡ buffer)
   unfolding numberReturned listAfter answerAfter
-  by-length = (refl, refl, refl)
+  too-short h = rw (lt-ltb (length buffer) answerBytes h, numberReturned) (refl, refl, refl)
 
-  pub too-short : length buffer < answerBytes → By true
-  too-short h = rw (lt-ltb (length buffer) answerBytes h) at by-length
-
-  pub long-enough : answerBytes ≤ length buffer → By false
-  long-enough h = rw (le-ltb (length buffer) answerBytes h) at by-length
+  pub long-enough : answerBytes ≤ length buffer → (numberReturned sheet demand allowance list buffer ≡ (answer sheet demand allowance (length list)) .number)
+      × (listAfter sheet allowance list buffer ≡ storeAfter sheet allowance list)
+      × (answerAfter sheet demand allowance list buffer ≡ encodeAnswer (answer sheet demand allowance (length list)) ++ drop answerBytes buffer)
+  unfolding numberReturned listAfter answerAfter
+  long-enough h = rw (le-ltb (length buffer) answerBytes h, numberReturned) (refl, refl, refl)
 
   pub call : Call sheet demand allowance list buffer
   unfolding encodeAnswer
