@@ -87,7 +87,7 @@ number-split s a m (suc n) h =
 pub length-bigEndian : (n v : ℕ) → length (bigEndian n v) ≡ n
 unfolding bigEndian
 length-bigEndian zero v = refl
-length-bigEndian (suc n) v = ap suc (length-bigEndian n v)
+length-bigEndian (suc n) v = ap suc (length-bigEndian n _)
 
 pub bigEndian-next : (m v : ℕ) → bigEndian (m + 1) v ≡ (v / 256 ^ m) % 256 ∷ bigEndian m v
 unfolding bigEndian
