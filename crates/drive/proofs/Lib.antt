@@ -1,5 +1,6 @@
 -- What is proved of the calls for C hosts.
 pub mod Call
+pub mod Speed
 pub mod Fits
 pub mod Writer
 pub mod Reader

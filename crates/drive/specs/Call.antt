@@ -22,30 +22,54 @@ unfoldable pub encodeAnswer : Answer → List ℕ
 encodeAnswer a =
     bigEndian 8 (a .total) ++ (bigEndian 8 (a .belief) ++ (bigEndian 8 (a .plausibility) ++ (bigEndian 8 (a .pairs) ++ bigEndian 8 (a .intervals))))
 
--- The bytes of the list buffer that count: none where the answer buffer is too short, so that the number is 12 unless one of 1 to 11 applies.
-abbrev pub room : List ℕ → List ℕ → ℕ
-room list buffer = cond (ltb (length buffer) answerBytes) 0 (length list)
+-- Every call has a list buffer and an answer buffer, in which its answers take `size` bytes. The bytes of the list buffer that count: none
+-- where the answer buffer is too short, so that the number is 12 unless one of 1 to 11 applies.
+abbrev pub room : ℕ → List ℕ → List ℕ → ℕ
+room size list buffer = cond (ltb (length buffer) size) 0 (length list)
 
+-- The list buffer afterwards: unchanged where the answer buffer is too short; else the store that the call leaves.
+abbrev pub listBy : ℕ → List ℕ → List ℕ → List ℕ → List ℕ
+listBy size list buffer after = cond (ltb (length buffer) size) list after
+
+-- The answer buffer afterwards: unchanged where it is too short; else the answers at its front, and the bytes behind untouched.
+abbrev pub answersBy : ℕ → List ℕ → List ℕ → List ℕ
+answersBy size buffer bytes = cond (ltb (length buffer) size) buffer (bytes ++ drop size buffer)
+
+-- The call at a demand: the number returned, the list buffer and the answer buffer afterwards.
 abbrev pub called : List ℕ → ℕ → ℕ → List ℕ → List ℕ → Answer
-called sheet demand allowance list buffer = answer sheet demand allowance (room list buffer)
+called sheet demand allowance list buffer = answer sheet demand allowance (room answerBytes list buffer)
 
--- The number returned.
 unfoldable pub numberReturned : List ℕ → ℕ → ℕ → List ℕ → List ℕ → ℕ
 numberReturned sheet demand allowance list buffer = (called sheet demand allowance list buffer) .number
 
--- The list buffer afterwards: unchanged where the answer buffer is too short.
 unfoldable pub listAfter : List ℕ → ℕ → List ℕ → List ℕ → List ℕ
-listAfter sheet allowance list buffer = cond (ltb (length buffer) answerBytes) list (storeAfter sheet allowance list)
+listAfter sheet allowance list buffer = listBy answerBytes list buffer (storeAfter sheet allowance list)
 
--- The answer buffer afterwards: unchanged where it is too short; else the answer at its front, and the bytes behind untouched.
 unfoldable pub answerAfter : List ℕ → ℕ → ℕ → List ℕ → List ℕ → List ℕ
-answerAfter sheet demand allowance list buffer =
-    cond (ltb (length buffer) answerBytes) buffer (encodeAnswer (called sheet demand allowance list buffer) ++ drop answerBytes buffer)
+answerAfter sheet demand allowance list buffer = answersBy answerBytes buffer (encodeAnswer (called sheet demand allowance list buffer))
+
+-- "If that has fewer than 40 bytes, it and the list buffer stay unchanged and the number is 12, unless one of 1 to 11 applies."
+pub record TooShort (sheet : List ℕ) (number : ℕ) (list listThen buffer bufferThen : List ℕ) : Type 0 where
+  pub answer-unchanged : bufferThen ≡ buffer
+  pub list-unchanged : listThen ≡ list
+  pub twelve : Every Unbroken (sheetTests sheet) → number ≡ 12
+  pub one-to-eleven : (k : ℕ) → 0 < k → First (sheetTests sheet) k → number ≡ k
+
+-- Five answers are read back from the answer buffer. (An allowance is a 32-bit number.)
+pub record AnswersRead (allowance : ℕ) (a : Answer) (buffer : List ℕ) : Type 0 where
+  pub total-read : numberAt buffer 0 8 ≡ a .total
+  pub belief-read : numberAt buffer 8 8 ≡ a .belief
+  pub plausibility-read : numberAt buffer 16 8 ≡ a .plausibility
+  pub pairs-read : allowance < 2 ^ 64 → numberAt buffer 24 8 ≡ a .pairs
+  pub intervals-read : numberAt buffer 32 8 ≡ a .intervals
 
 -- What that comes to, for every sheet, demand, allowance, list buffer and answer buffer.
 module _ (sheet : List ℕ) (demand allowance : ℕ) (list buffer : List ℕ) where
   abbrev pub number : ℕ
   number = numberReturned sheet demand allowance list buffer
+
+  abbrev pub listBuffer : List ℕ
+  listBuffer = listAfter sheet allowance list buffer
 
   abbrev pub answerBuffer : List ℕ
   answerBuffer = answerAfter sheet demand allowance list buffer
@@ -53,25 +77,13 @@ module _ (sheet : List ℕ) (demand allowance : ℕ) (list buffer : List ℕ) wh
   abbrev pub answered : Answer
   answered = answer sheet demand allowance (length list)
 
-  -- "If that has fewer than 40 bytes, it and the list buffer stay unchanged and the number is 12, unless one of 1 to 11 applies."
-  pub record TooShort : Type 0 where
-    pub answer-unchanged : answerBuffer ≡ buffer
-    pub list-unchanged : listAfter sheet allowance list buffer ≡ list
-    pub twelve : Every Unbroken (sheetTests sheet) → number ≡ 12
-    pub one-to-eleven : (k : ℕ) → 0 < k → First (sheetTests sheet) k → number ≡ k
-
-  -- Otherwise the number and the list are the call's, and its five other answers are read back from the answer buffer. (An allowance is a 32-bit
-  -- number.)
-  pub record AnswerRead : Type 0 where
+  -- Where the answer buffer is long enough, the number and the list are the call's, and its other answers are read back.
+  pub record LongEnough : Type 0 where
     pub number-is : number ≡ answered .number
-    pub list-is : listAfter sheet allowance list buffer ≡ storeAfter sheet allowance list
-    pub total-read : numberAt answerBuffer 0 8 ≡ answered .total
-    pub belief-read : numberAt answerBuffer 8 8 ≡ answered .belief
-    pub plausibility-read : numberAt answerBuffer 16 8 ≡ answered .plausibility
-    pub pairs-read : allowance < 2 ^ 64 → numberAt answerBuffer 24 8 ≡ answered .pairs
-    pub intervals-read : numberAt answerBuffer 32 8 ≡ answered .intervals
+    pub list-is : listBuffer ≡ storeAfter sheet allowance list
+    pub answers : AnswersRead allowance answered answerBuffer
     pub later-kept : drop answerBytes answerBuffer ≡ drop answerBytes buffer
 
   pub record Call : Type 0 where
-    pub too-short : length buffer < answerBytes → TooShort
-    pub long-enough : answerBytes ≤ length buffer → AnswerRead
+    pub too-short : length buffer < answerBytes → TooShort sheet number list listBuffer buffer answerBuffer
+    pub long-enough : answerBytes ≤ length buffer → LongEnough

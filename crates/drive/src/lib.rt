@@ -1,15 +1,19 @@
-// What makers link: the call, the writer and the reader on numbers and byte slices, and nothing else. The header host/drive.h is the
+// What makers link: the calls, the writer and the reader on numbers and byte slices, and nothing else. The header host/drive.h is the
 // manual.
 ghost use mathlib.Core.Path.{_≡_};
 ghost use mathlib.Core.List.{_++_};
 ghost use Prim.Native.Nat.{_≤_};
 ghost use lib.ListN.{length, drop};
 ghost use Rattle.drive.specs.Call.{answerBytes, encodeAnswer, numberReturned, listAfter, answerAfter};
+ghost use Rattle.drive.specs.Speed.{promiseBytes, encodePromise, speedNumber, speedListAfter, speedAnswerAfter};
 ghost use Rattle.drive.specs.Sheets.{writeNumber, sheetAfter, lengthAfter, readNumber, planAfter};
 use evaluate::Answer;
+use evaluate::Promise;
 
-// The bytes that an answer takes, and those of the length that the writer answers.
+// The bytes that an answer takes, those of an answer with a speed, and those of the length that the writer answers.
 const ANSWER_BYTES: usize = 40;
+
+const PROMISE_BYTES: usize = 48;
 
 const LENGTH_BYTES: usize = 8;
 
@@ -45,6 +49,38 @@ pub extern "C" fn drive_bounds(
     let a = evaluate::bounds(sheet, demand, allowance, list);
     put_answer(a, answer);
     a.number as u32
+}
+
+// Writes an answer and its speed at the front of a buffer that holds them.
+fn put_promise(p: Promise, buffer: &mut [u8])
+    requires { ⌜ promiseBytes ≤ length (now buffer) ⌝ }
+    ensures { λ _. ⌜ now (buffer .exit) ≡ encodePromise p ++ drop promiseBytes (now (buffer .entry)) ⌝ }
+{
+    let a = p.answer;
+    put_answer(a, buffer);
+    numbers::write_number(buffer, ANSWER_BYTES, 8, p.speed);
+}
+
+// Returns the number. The answer and its speed go to the front of `answer`, the drive's list to the front of `list`.
+#[no_mangle]
+pub extern "C" fn drive_speed(
+    sheet: &[u8],
+    target: u32,
+    allowance: u32,
+    list: &mut [u8],
+    answer: &mut [u8],
+) -> u32
+    ensures { λ r. ⌜ r ≡ speedNumber (now (sheet .entry)) target allowance (now (list .entry)) (now (answer .entry)) ⌝ }
+    ensures { λ _. ⌜ now (list .exit) ≡ speedListAfter (now (sheet .entry)) target allowance (now (list .entry)) (now (answer .entry)) ⌝ }
+    ensures { λ _. ⌜ now (answer .exit) ≡ speedAnswerAfter (now (sheet .entry)) target allowance (now (list .entry)) (now (answer .entry)) ⌝ }
+{
+    if answer.len() < PROMISE_BYTES {
+        let p = evaluate::speed(sheet, target, allowance, &mut list[0..0]);
+        return p.answer.number as u32;
+    }
+    let p = evaluate::speed(sheet, target, allowance, list);
+    put_promise(p, answer);
+    p.answer.number as u32
 }
 
 // Returns the number. The sheet of the plan goes to the front of `sheet`, its length to the front of `answer`.

@@ -17,20 +17,18 @@ use Rattle.theory.specs.Limits.{mostTotal, mostComponents}
 use Rattle.theory.specs.Sums.{Every}
 use Rattle.theory.specs.Masses.{total}
 use Rattle.theory.specs.Focal.{Focal, weights, Positive}
-use Rattle.theory.specs.Choices.{weightWhere}
 use Rattle.theory.specs.Bounds.{Bounds}
 use Rattle.theory.proofs.Every.{every-map}
-use Rattle.theory.proofs.Sums.{sum-le}
 use Rattle.theory.proofs.Steps.{positive-outcomesOf}
 use Rattle.theory.proofs.Method.{Leaves}
-use Rattle.theory.proofs.Collect.{order-collect, positive-collect, weightAt-collect, belief-collect, plausibility-collect}
+use Rattle.theory.proofs.Collect.{order-collect, positive-collect, where-le, weightAt-collect, belief-collect, plausibility-collect}
 use Rattle.theory.proofs.Totals.{weights-listOf, weights-driveList, total-le}
 use Rattle.theory.proofs.Range.{spans-choices}
 use Rattle.theory.proofs.Bounds.{bounds}
 use Rattle.records.specs.Store.{settled}
 use Rattle.records.proofs.Store.{settled-list}
 use Rattle.plan.specs.declared.Plan.{Plan}
-use Rattle.plan.specs.Tests.{firstBroken}
+use Rattle.plan.specs.Tests.{Test, firstBroken}
 use Rattle.plan.specs.Valid.{Valid}
 use Rattle.plan.proofs.Numbers.{none-broken, refused-by}
 use Rattle.writing.proofs.Cleaned.{ignores-unused}
@@ -39,11 +37,10 @@ use Rattle.writing.proofs.Theorems.{written-longest, written-is-read, read-is-w
 use Rattle.run.specs.Run.{needed, cleared}
 use Rattle.plan.proofs.Entries.{components-count}
 use Rattle.evaluate.specs.declared.Answer.{Answer}
-use Rattle.evaluate.specs.Answer.{planOf, components, structure, sheetOutcomes, sheetList, callTests, ending, refusal, answerOf}
-use Rattle.evaluate.specs.Store.{isLate, storeBy}
-use Rattle.evaluate.specs.Store.{storeAfter}
+use Rattle.evaluate.specs.Answer.{planOf, components, structure, sheetOutcomes, sheetList, callTests, ending, refusal, answerOf, answerWith}
+use Rattle.evaluate.specs.Store.{isLate, storeBy, storeWith, storeAfter}
 use Rattle.evaluate.specs.Demands.{Passed, Broken, by-test, by-join, answerAt, answered, Demand-1, Demand-2, Demand-3, DemandsMet, Writer, RoundTrips}
-use Rattle.evaluate.proofs.Numbers.{tests-kept, Ended, tested, stopped, passed, ended, answered-by, stored-by}
+use Rattle.evaluate.proofs.Numbers.{Numbered, call-numbered, Ended, tested, stopped, passed, ended, answer-is, store-is}
 use Rattle.evaluate.proofs.Finish.{WithinAllowance, completes, within, leaves-by, drive-fits, late, above, ready}
 
 -- Equal functions over an equal whole have the same bounds.
@@ -58,32 +55,36 @@ bounds-of {es} {cs} {v} {w} {f} {g} {h} {k} e p q b = record {
   greatest-tight = λ d a c t. rw (← q d, ← e) (b .greatest-tight d a c t);
 }
 
--- A call: what it ends in, and what its number says.
-module _ (s : List ℕ) (demand allowance : ℕ) (store : List ℕ) where
-  abbrev room : ℕ
-  room = length store
+-- ---- demand 1, for every call: what it ends in, and what its number says
+
+module _ (tests : List Test) (s : List ℕ) (demand allowance : ℕ) (store : List ℕ) where
+  abbrev number : ℕ
+  number = firstBroken tests
+
+  abbrev end : Evaluation Tree
+  end = ending tests s allowance
 
   abbrev endNumber : Evaluation Tree → ℕ
   endNumber v = (answerOf v (structure s) (components s) demand) .number
 
-  was-passed : {v : Evaluation Tree} → Ended s allowance room v → endNumber v ≡ 0 → Passed s allowance room
-  was-passed (tested h m z) e = absurd (omega arith)
-  was-passed (stopped {k = k} z l q) e = absurd (omega (arith, above k l))
-  was-passed (passed {stack = stack} {pairs = pairs} z q) e = record { tests = tests-kept s room z; stack = stack; pairs = pairs; runs = q }
+  was-passed : Numbered tests → {v : Evaluation Tree} → Ended number s allowance v → endNumber v ≡ 0 → Passed tests s allowance
+  was-passed ns (tested h z) e = absurd (omega arith)
+  was-passed ns (stopped {k = k} z l q) e = absurd (omega (arith, above k l))
+  was-passed ns (passed {stack = stack} {pairs = pairs} z q) e = record { unbroken = ns .kept z; stack = stack; pairs = pairs; runs = q }
 
-  passes : (pass : Passed s allowance room) → ending s allowance room ≡ completed (pass .stack) (pass .pairs)
-  passes pass = rw (none-broken (pass .tests), pass .runs)
+  pub passes : (pass : Passed tests s allowance) → end ≡ completed (pass .stack) (pass .pairs)
+  passes pass = rw (none-broken (pass .unbroken), pass .runs)
 
-  was-broken : (k : ℕ) → 0 < k → {v : Evaluation Tree} → Ended s allowance room v → endNumber v ≡ k → Broken s allowance room k
-  was-broken k h (tested l m z) e = by-test (refused-by (callTests s room) k h .0 (z ∙ e))
-  was-broken k h (stopped z l q) e = subst (Broken s allowance room) e (by-join (tests-kept s room z) l q)
-  was-broken k h (passed z q) e = absurd (omega arith)
+  was-broken : Numbered tests → (k : ℕ) → 0 < k → {v : Evaluation Tree} → Ended number s allowance v → endNumber v ≡ k → Broken tests s allowance k
+  was-broken ns k h (tested l z) e = by-test (refused-by tests k h .0 (z ∙ e))
+  was-broken ns k h (stopped z l q) e = subst (Broken tests s allowance) e (by-join (ns .kept z) l q)
+  was-broken ns k h (passed z q) e = absurd (omega arith)
 
-  breaks : (k : ℕ) → 0 < k → Broken s allowance room k → endNumber (ending s allowance room) ≡ k
+  breaks : (k : ℕ) → 0 < k → Broken tests s allowance k → endNumber end ≡ k
   breaks k h (by-join t l q) = rw (none-broken t, q)
-  breaks k h (by-test f) = go k h (refused-by (callTests s room) k h .1 f)
+  breaks k h (by-test f) = go k h (refused-by tests k h .1 f)
     where
-      go : (n : ℕ) → 0 < n → firstBroken (callTests s room) ≡ n → endNumber (ending s allowance room) ≡ n
+      go : (n : ℕ) → 0 < n → firstBroken tests ≡ n → endNumber end ≡ n
       go zero h e = absurd (omega arith)
       go (suc n) h e = rw e
 
@@ -98,57 +99,65 @@ module _ (s : List ℕ) (demand allowance : ℕ) (store : List ℕ) where
   abbrev storeIn : Evaluation Tree → List ℕ
   storeIn v = storeBy v size (sheetList s) store
 
-  store-late : (k : ℕ) → (k ≡ 13) ⊎ (k ≡ 14) → {v : Evaluation Tree} → Ended s allowance room v → endNumber v ≡ k → storeIn v ≡ cleared size store
-  store-late k m (tested h b z) e = absurd (false≢true (sym b ∙ (ap isLate e ∙ late k m)))
-  store-late k m (stopped {k = n} z b q) e = rw (late n b)
-  store-late k m (passed z q) e = absurd (omega (arith, above k m))
+  store-late : Numbered tests → (k : ℕ) → (k ≡ 13) ⊎ (k ≡ 14) → {v : Evaluation Tree} → Ended number s allowance v → endNumber v ≡ k → storeIn v ≡ cleared size store
+  store-late ns k m (tested h z) e = absurd (false≢true (sym (ns .early) ∙ (ap isLate (z ∙ e) ∙ late k m)))
+  store-late ns k m (stopped {k = n} z b q) e = rw (late n b)
+  store-late ns k m (passed z q) e = absurd (omega (arith, above k m))
 
-  store-kept : (k : ℕ) → 0 < k → (k ≡ 13 → ⊥) → (k ≡ 14 → ⊥) → {v : Evaluation Tree} → Ended s allowance room v → endNumber v ≡ k → storeIn v ≡ store
-  store-kept k h a b (tested i m z) e = rw m
-  store-kept k h a b (stopped z (inl m) q) e = absurd (a (sym e ∙ m))
-  store-kept k h a b (stopped z (inr m) q) e = absurd (b (sym e ∙ m))
-  store-kept k h a b (passed z q) e = absurd (omega arith)
+  store-kept : Numbered tests → (k : ℕ) → 0 < k → (k ≡ 13 → ⊥) → (k ≡ 14 → ⊥) → {v : Evaluation Tree} → Ended number s allowance v → endNumber v ≡ k → storeIn v ≡ store
+  store-kept ns k h a b (tested i z) e = rw (ap isLate (sym z) ∙ ns .early)
+  store-kept ns k h a b (stopped z (inl m) q) e = absurd (a (sym e ∙ m))
+  store-kept ns k h a b (stopped z (inr m) q) e = absurd (b (sym e ∙ m))
+  store-kept ns k h a b (passed z q) e = absurd (omega arith)
 
-  pub demand-1 : Demand-1 s demand allowance store
-  demand-1 =
-      let end = ended s allowance room in
-      let same = answered-by s allowance demand room refl in
-      let stored = stored-by s allowance store refl in
-      let number : (answered s demand allowance store) .number ≡ endNumber (ending s allowance room) = ap (λ (a : Answer). a .number) same in
+  -- A call that answers and leaves what these tests say.
+  pub demand-1-of : Numbered tests → {a : Answer} {after : List ℕ} → a ≡ answerWith tests s demand allowance → after ≡ storeWith tests s allowance store
+      → Demand-1 tests s allowance a store after
+  demand-1-of ns {a} {after} same stored =
+      let ends = ended number s allowance in
+      let number-is : a .number ≡ endNumber end = ap (λ (x : Answer). x .number) same in
       record {
-        accepted = (
-          λ e. was-passed end (sym number ∙ e),
-          λ pass. ap (λ (a : Answer). a .number) (answered-by s allowance demand room (passes pass)),
-        );
-        refused-by = λ k h. (λ e. was-broken k h end (sym number ∙ e), λ b. number ∙ breaks k h b);
-        zeros = λ k h e. same ∙ zeros k h (ending s allowance room) (sym number ∙ e);
-        store-accepted = λ e. stored-by s allowance store (passes (was-passed end (sym number ∙ e)));
-        store-late = λ k m e. stored ∙ store-late k m end (sym number ∙ e);
-        store-kept = λ k h a b e. stored ∙ store-kept k h a b end (sym number ∙ e);
+        accepted = (λ e. was-passed ns ends (sym number-is ∙ e), λ pass. number-is ∙ ap endNumber (passes pass));
+        refused-by = λ k h. (λ e. was-broken ns k h ends (sym number-is ∙ e), λ b. number-is ∙ breaks k h b);
+        zeros = λ k h e. same ∙ zeros k h end (sym number-is ∙ e);
+        store-accepted = λ e. stored ∙ ap storeIn (passes (was-passed ns ends (sym number-is ∙ e)));
+        store-late = λ k m e. stored ∙ store-late ns k m ends (sym number-is ∙ e);
+        store-kept = λ k h i j e. stored ∙ store-kept ns k h i j ends (sym number-is ∙ e);
       }
+
+-- ---- the call at a demand
+
+module _ (s : List ℕ) (demand allowance : ℕ) (store : List ℕ) where
+  abbrev room : ℕ
+  room = length store
+
+  pub demand-1 : Demand-1 (callTests s room) s allowance (answered s demand allowance store) store (storeAfter s allowance store)
+  demand-1 = demand-1-of (callTests s room) s demand allowance store (call-numbered s room) (answer-is s demand allowance room) (store-is s allowance store)
 
   -- An accepted call.
   module _ (e : (answered s demand allowance store) .number ≡ 0) where
-    pass : Passed s allowance room
+    pass : Passed (callTests s room) s allowance
     pass = demand-1 .accepted .0 e
 
     valid : Valid (planOf s)
-    valid = ready s store (none-broken (pass .tests)) .valid
+    valid = ready s store (none-broken (pass .unbroken)) .valid
 
     leaves : Leaves (components s) (structure s) (pass .stack) (pass .pairs)
     leaves = leaves-by valid allowance (pass .stack) (pass .pairs) (pass .runs)
 
-    answer-is : (d : ℕ) → answerAt s demand allowance store d ≡ answerOf (completed (pass .stack) (pass .pairs)) (structure s) (components s) d
-    answer-is d = answered-by s allowance d room (passes pass)
+    answer-by : (d : ℕ) → answerAt s demand allowance store d ≡ answerOf (completed (pass .stack) (pass .pairs)) (structure s) (components s) d
+    answer-by d =
+        answer-is s d allowance room
+        ∙ ap (λ (v : Evaluation Tree). answerOf v (structure s) (components s) d) (passes (callTests s room) s demand allowance store pass)
 
     pub demand-2 : Demand-2 s demand allowance store
     demand-2 =
-        let a = answer-is demand in
+        let a = answer-by demand in
         let every = sheetOutcomes s in
         let l = sheetList s in
         let total-is : (answered s demand allowance store) .total ≡ total (components s) = ap (λ (x : Answer). x .total) a in
         let n : (answered s demand allowance store) .intervals ≡ length l = ap (λ (x : Answer). x .intervals) a in
-        let settled-is : storeAfter s allowance store ≡ settled size l store = demand-1 .store-accepted e in
+        let settled-is : storeAfter s allowance store ≡ settled (needed (planOf s)) l store = demand-1 .store-accepted e in
         let fits = drive-fits valid in
         let six : length (components s) ≤ mostComponents = omega (arith, components-count (planOf s), valid .most) in
         record {
@@ -158,14 +167,14 @@ module _ (s : List ℕ) (demand allowance : ℕ) (store : List ℕ) where
           total-most = rw total-is (le-trans (total-le (every-map (λ c t. t .1) (valid .totals))) (pow-le-pow-right {n = mostTotal} (omega arith) six));
           spans = spans-choices (structure s) (valid .inRange);
           list-length = n;
-          list-read = rw (n, settled-is) (settled-list size store (fits .0) (fits .1));
+          list-read = rw (n, settled-is) (settled-list (needed (planOf s)) store (fits .0) (fits .1));
           list-ordered = order-collect every;
           list-positive = rw (leaves .list) at (positive-collect (positive-outcomesOf (valid .positive) (leaves .tree)));
           lists-weights = weights-listOf (valid .balanced);
           list-weight = λ low high. weightAt-collect low high every;
           list-weights = weights-driveList (valid .balanced) (structure s) ∙ sym total-is;
-          list-belief = λ d. belief-collect d every ∙ sym (ap (λ (x : Answer). x .belief) (answer-is d));
-          list-plausibility = λ d. plausibility-collect d every ∙ sym (ap (λ (x : Answer). x .plausibility) (answer-is d));
+          list-belief = λ d. belief-collect d every ∙ sym (ap (λ (x : Answer). x .belief) (answer-by d));
+          list-plausibility = λ d. plausibility-collect d every ∙ sym (ap (λ (x : Answer). x .plausibility) (answer-by d));
           tree = leaves .tree;
           built = leaves .built;
           pairs-are = ap (λ (x : Answer). x .pairs) a ∙ leaves .counted;
@@ -178,8 +187,8 @@ module _ (s : List ℕ) (demand allowance : ℕ) (store : List ℕ) where
     pub demand-3 : Demand-3 s demand allowance store
     demand-3 =
         bounds-of (sym (demand-2 .total-is))
-        (λ d. sym (ap (λ (x : Answer). x .belief) (answer-is d)))
-        (λ d. sym (ap (λ (x : Answer). x .plausibility) (answer-is d)))
+        (λ d. sym (ap (λ (x : Answer). x .belief) (answer-by d)))
+        (λ d. sym (ap (λ (x : Answer). x .plausibility) (answer-by d)))
         (bounds (structure s) (valid .inRange))
 
   pub demands-met : DemandsMet s demand allowance store
@@ -208,12 +217,8 @@ pub record Fits64 (allowance : ℕ) (a : Answer) : Type 0 where
   pub pairs : allowance < 2 ^ 64 → a .pairs < 2 ^ 64
   pub intervals : a .intervals < 2 ^ 64
 
-where-le : (test : ℕ → ℕ → Bool) (l : List Focal) → weightWhere test l ≤ weights l
-where-le test = sum-le (λ f. go (test (f .low) (f .high)) (f .weight))
-  where
-    go : (b : Bool) (w : ℕ) → cond b w 0 ≤ w
-    go true w = omega arith
-    go false w = omega arith
+pub refusal-fits : (allowance k : ℕ) → Fits64 allowance (refusal k)
+refusal-fits allowance k = record { total = omega arith; belief = omega arith; plausibility = omega arith; pairs = λ h. omega arith; intervals = omega arith }
 
 length-le : {l : List Focal} → Every Positive l → length l ≤ weights l
 length-le Every.none = omega arith
@@ -235,6 +240,5 @@ module _ (s : List ℕ) (demand allowance : ℕ) (store : List ℕ) where
           intervals = omega (arith, second .list-length);
         }
     | no n ↦
-        rw (demand-1 s demand allowance store .zeros ((answered s demand allowance store) .number) (omega arith) refl)
-        (record { total = omega arith; belief = omega arith; plausibility = omega arith; pairs = λ h. omega arith; intervals = omega arith })
+        rw (demand-1 s demand allowance store .zeros ((answered s demand allowance store) .number) (omega arith) refl) (refusal-fits allowance _)
   ]

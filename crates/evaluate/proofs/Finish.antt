@@ -14,22 +14,24 @@ use Rattle.theory.specs.declared.Component.{Component}
 use Rattle.theory.specs.declared.Entry.{Entry}
 use Rattle.theory.specs.declared.Entry.the-variants.{Component as component, Join as join}
 use Rattle.theory.specs.Structure.{NamedOnce, Tree, leaf, node}
-use Rattle.theory.specs.Choices.{belief, plausibility}
 use Rattle.theory.specs.Lists.{driveList, listOf}
 use Rattle.theory.specs.Evaluation.{Evaluation, completed, refused, refuseIf, walk, evaluate}
-use Rattle.theory.specs.Limits.{mostIntervals, recordBytes}
+use Rattle.theory.specs.Limits.{mostIntervals, recordBytes, thousandths}
 use Rattle.theory.proofs.Every.{every-map}
-use Rattle.theory.proofs.Collect.{belief-collect, plausibility-collect}
+use Rattle.theory.specs.Order.{InOrder}
+use Rattle.theory.proofs.Collect.{order-collect, belief-collect, plausibility-collect}
 use Rattle.theory.proofs.Method.{image, evaluate-lists, evaluate-refused, Leaves, method}
-use Rattle.theory.proofs.Totals.{fits-drive}
-use Rattle.records.specs.declared.Shares.{Shares}
+use Rattle.theory.proofs.Totals.{fits-drive, total-positive}
+use Rattle.queries.specs.declared.Shares.{Shares}
 use Rattle.records.specs.Records.{records, Storable}
-use Rattle.records.specs.Shares.{sharesOf}
+use Rattle.queries.specs.Shares.{sharesOf}
+use Rattle.queries.specs.Speed.{Asked}
 use Rattle.records.proofs.Records.{length-encode}
 use Rattle.records.specs.Store.{settled}
 use Rattle.records.proofs.Store.{settled-list}
 use Rattle.plan.specs.declared.Plan.{Plan}
-use Rattle.plan.specs.Tests.{firstBroken}
+use Rattle.plan.specs.Tests.{firstBroken, outside}
+use Rattle.plan.proofs.Tests.{within as within-bounds}
 use Rattle.plan.specs.Plan.{componentsOf, entriesOf}
 use Rattle.plan.specs.Valid.{Valid}
 use Rattle.writing.proofs.Theorems.{read-valid}
@@ -37,9 +39,12 @@ use Rattle.run.specs.declared.Ran.{Ran}
 use Rattle.run.specs.Run.{needed, walked, ranOf, storeOf, Runnable}
 use Rattle.plan.proofs.Entries.{components-count}
 use Rattle.run.proofs.Stacked.{fits-record}
-use Rattle.evaluate.specs.Answer.{planOf, components, structure, sheetOutcomes, sheetList, callTests, evaluated, ending, refusal, answer}
-use Rattle.evaluate.specs.Store.{isLate, storeAfter}
-use Rattle.evaluate.proofs.Numbers.{tests-early, tests-say, answered-by, stored-by}
+use Rattle.evaluate.specs.declared.SheetRun.{SheetRun}
+use Rattle.evaluate.specs.Answer.{planOf, components, structure, sheetOutcomes, sheetList, callTests, evaluated, endingAt, answerOf}
+use Rattle.evaluate.specs.Store.{isLate, storeBy, storeAt}
+use Rattle.evaluate.specs.SheetRun.{numberThen, refusedRun, sheetRunOf}
+use Rattle.evaluate.specs.Speed.{targetTests}
+use Rattle.evaluate.proofs.Numbers.{tests-say, number-passed, own-passed, number-early, Ended, tested, stopped, passed, ended}
 
 -- ---- a completed evaluation has formed no more pairs than the allowance
 
@@ -120,51 +125,131 @@ above k (inr e) = omega arith
 pub ready : (s store : List ℕ) → firstBroken (callTests s (length store)) ≡ 0 → Runnable (planOf s) store
 ready s store z = let say = tests-say s (length store) z in record { valid = read-valid s (say .0); enough = say .1 }
 
-module _ (s : List ℕ) (demand allowance : ℕ) (store : List ℕ) where
+-- Tests and run, by the number of the call's own tests.
+module _ (s : List ℕ) (own allowance : ℕ) (store : List ℕ) where
+  abbrev number : ℕ
+  number = numberThen s (length store) own
+
+  abbrev pub end : Evaluation Tree
+  end = endingAt number s allowance
+
   -- A call that a test refuses.
-  pub tested-call : (k : ℕ) → firstBroken (callTests s (length store)) ≡ k → (k ≡ 0 → ⊥) → (refusal k ≡ answer s demand allowance (length store)) × (store ≡ storeAfter s allowance store)
-  tested-call zero e z = absurd (z refl)
-  tested-call (suc k) e z =
-      let w : ending s allowance (length store) ≡ refused (suc k) = rw e in
-      let m : isLate (suc k) ≡ false = ap isLate (sym e) ∙ tests-early s (length store) in
-      (sym (answered-by s allowance demand (length store) w), sym (stored-by s allowance store w ∙ rw m))
+  pub tested-call : isLate own ≡ false → (k : ℕ) → number ≡ k → (k ≡ 0 → ⊥) → (refusedRun k ≡ sheetRunOf end s) × (store ≡ storeAt number s allowance store)
+  tested-call h zero e z = absurd (z refl)
+  tested-call h (suc k) e z =
+      let w : end ≡ refused (suc k) = ap (λ (n : ℕ). endingAt n s allowance) e in
+      let m : isLate (suc k) ≡ false = ap isLate (sym e) ∙ number-early s (length store) own h in
+      (ap (λ (v : Evaluation Tree). sheetRunOf v s) (sym w), sym (ap (λ (v : Evaluation Tree). storeBy v (needed (planOf s)) (sheetList s) store) w ∙ rw m))
 
   -- A call past the tests, by what the run answers and the store that it leaves.
   pub record Finished (r : Ran) (x : List ℕ) : Type 0 where
-    pub stored : x ≡ storeAfter s allowance store
-    pub refuses : (r .number ≡ 0 → ⊥) → refusal (r .number) ≡ answer s demand allowance (length store)
-    pub readable : r .number ≡ 0 → (recordBytes * r .intervals ≤ length x) × (weights (records (r .intervals) x) < 2 ^ 64)
-    pub accepts : r .number ≡ 0 → (u : ℕ) → u ≡ total (components s) → (b : Shares) → b ≡ sharesOf demand (records (r .intervals) x)
-        → record { number = 0; total = u; belief = b .belief; plausibility = b .plausibility; pairs = r .pairs; intervals = r .intervals }
-        ≡ answer s demand allowance (length store)
+    pub stored : x ≡ storeAt number s allowance store
+    pub refuses : (r .number ≡ 0 → ⊥) → refusedRun (r .number) ≡ sheetRunOf end s
+    pub accepts : r .number ≡ 0 → (u : ℕ) → u ≡ total (components s)
+        → record { number = 0; total = u; pairs = r .pairs; intervals = r .intervals } ≡ sheetRunOf end s
 
-  pub finish : firstBroken (callTests s (length store)) ≡ 0 → (r : Ran) (x : List ℕ)
+  pub finish : number ≡ 0 → (r : Ran) (x : List ℕ)
       → r ≡ ranOf (walked (planOf s) allowance) → x ≡ storeOf (needed (planOf s)) (walked (planOf s) allowance) store → Finished r x
-  finish z r x e f = go (run-ends (ready s store z .valid) allowance) refl e f
+  finish z r x e f = go (run-ends (ready s store (number-passed s (length store) own z) .valid) allowance) refl e f
     where
       go : {w : Evaluation (List Focal)} {v : Evaluation Tree} → RunEnds (components s) (structure s) w v → evaluated s allowance ≡ v
           → r ≡ ranOf w → x ≡ storeOf (needed (planOf s)) w store → Finished r x
       go {w} {v} (stops {k = k} l) q e f =
           let n : r .number ≡ k = ap (λ (y : Ran). y .number) e in
-          let u : ending s allowance (length store) ≡ refused k = rw (z, q) in
+          let u : end ≡ refused k = rw (z, q) in
           record {
-            stored = f ∙ sym (stored-by s allowance store u ∙ rw (late k l));
-            refuses = λ h. ap refusal n ∙ sym (answered-by s allowance demand (length store) u);
-            readable = λ h. absurd (omega (arith, above k l));
+            stored = f ∙ sym (ap (λ (t : Evaluation Tree). storeBy t (needed (planOf s)) (sheetList s) store) u ∙ rw (late k l));
+            refuses = λ h. ap refusedRun n ∙ sym (ap (λ (t : Evaluation Tree). sheetRunOf t s) u);
             accepts = λ h. absurd (omega (arith, above k l));
           }
       go (leaves-one {stack = stack} {pairs = pairs} left-over) q e f =
           let m : r .intervals ≡ length (sheetList s) = ap (λ (y : Ran). y .intervals) e in
-          let u : ending s allowance (length store) ≡ completed stack pairs = rw (z, q) in
-          let fits = drive-fits (ready s store z .valid) in
+          let u : end ≡ completed stack pairs = rw (z, q) in
+          record {
+            stored = f ∙ sym (ap (λ (t : Evaluation Tree). storeBy t (needed (planOf s)) (sheetList s) store) u);
+            refuses = λ h. absurd (h (ap (λ (y : Ran). y .number) e));
+            accepts = λ h t t-is. (λ i. record { number = 0; total = t-is i; pairs = e i .pairs; intervals = m i }) ∙ sym (ap (λ (v : Evaluation Tree). sheetRunOf v s) u);
+          }
+
+-- ---- what is asked of the list
+
+-- A target without a number is 1 to 1,000.
+pub target-inside : (target : ℕ) → firstBroken (targetTests target) ≡ 0 → (1 ≤ target) × (target ≤ thousandths)
+target-inside target e = within-bounds 1 thousandths target (go (outside 1 thousandths target) e)
+  where
+    go : (b : Bool) → _≡_ {A = ℕ} (cond b 16 0) 0 → b ≡ false
+    go true e = absurd (omega arith)
+    go false e = refl
+
+-- The list that is asked: the drive's, or none.
+abbrev pub askedList : Evaluation Tree → List ℕ → List Focal
+askedList (refused k) s = []
+askedList (completed stack pairs) s = sheetList s
+
+-- The list l can be read from the store x.
+pub record Readable (l : List Focal) (n : ℕ) (x : List ℕ) : Type 0 where
+  pub room : recordBytes * n ≤ length x
+  pub list-is : records n x ≡ l
+  pub fits : weights (records n x) < 2 ^ 64
+  pub ordered : InOrder (records n x)
+
+nothing : (r : SheetRun) (x : List ℕ) {k : ℕ} → r ≡ refusedRun k → Readable [] (r .intervals) x
+unfolding records
+nothing r x e =
+    let z : r .intervals ≡ 0 = ap (λ (y : SheetRun). y .intervals) e in
+    rw z (record { room = omega arith; list-is = refl; fits = omega arith; ordered = InOrder.none })
+
+module _ (s : List ℕ) (own allowance : ℕ) (store : List ℕ) where
+  pub readable : (r : SheetRun) (x : List ℕ) → r ≡ sheetRunOf (end s own allowance store) s → x ≡ storeAt (number s own allowance store) s allowance store
+      → Readable (askedList (end s own allowance store) s) (r .intervals) x
+  readable r x e f = go (ended (number s own allowance store) s allowance) e f
+    where
+      go : {v : Evaluation Tree} → Ended (number s own allowance store) s allowance v → r ≡ sheetRunOf v s → x ≡ storeBy v (needed (planOf s)) (sheetList s) store
+          → Readable (askedList v s) (r .intervals) x
+      go (tested h z) e f = nothing r x e
+      go (stopped z l q) e f = nothing r x e
+      go (passed z q) e f =
+          let m : r .intervals ≡ length (sheetList s) = ap (λ (y : SheetRun). y .intervals) e in
+          let fits = drive-fits (ready s store (number-passed s (length store) own z) .valid) in
           let back : records (r .intervals) x ≡ sheetList s = rw (m, f) (settled-list (needed (planOf s)) store (fits .0) (fits .1)) in
           record {
-            stored = f ∙ sym (stored-by s allowance store u);
-            refuses = λ h. absurd (h (ap (λ (y : Ran). y .number) e));
-            readable = λ h. (rw (m, f) (settled-room (needed (planOf s)) (sheetList s) store), rw back (fits .1));
-            accepts = λ h t t-is b b-is.
-                let shares : b ≡ record { belief = belief demand (sheetOutcomes s); plausibility = plausibility demand (sheetOutcomes s) } =
-                b-is ∙ (ap (sharesOf demand) back ∙ (λ i. record { belief = belief-collect demand (sheetOutcomes s) i; plausibility = plausibility-collect demand (sheetOutcomes s) i })) in
-                (λ i. record { number = 0; total = t-is i; belief = shares i .belief; plausibility = shares i .plausibility; pairs = e i .pairs; intervals = m i })
-                ∙ sym (answered-by s allowance demand (length store) u);
+            room = rw (m, f) (settled-room (needed (planOf s)) (sheetList s) store);
+            list-is = back;
+            fits = rw back (fits .1);
+            ordered = rw back (order-collect (sheetOutcomes s));
           }
+
+-- A list that is not empty is asked with a target of 1 to 1,000 and a total above 0.
+pub target-asked : (s : List ℕ) (target allowance : ℕ) (store : List ℕ) → let own : ℕ = firstBroken (targetTests target) in
+    (r : SheetRun) → r ≡ sheetRunOf (end s own allowance store) s → 0 < r .intervals → Asked target (r .total)
+target-asked s target allowance store r e h = go (ended (number s own allowance store) s allowance) e
+  where
+    own : ℕ
+    own = firstBroken (targetTests target)
+
+    go : {v : Evaluation Tree} → Ended (number s own allowance store) s allowance v → r ≡ sheetRunOf v s → Asked target (r .total)
+    go (tested k z) e = absurd (omega (arith, ap (λ (y : SheetRun). y .intervals) e))
+    go (stopped z l q) e = absurd (omega (arith, ap (λ (y : SheetRun). y .intervals) e))
+    go (passed z q) e =
+        let bounds = target-inside target (own-passed s (length store) own z) in
+        let valid = ready s store (number-passed s (length store) own z) .valid in
+        let positive = total-positive (every-map (λ c t. t .0) (valid .totals)) in
+        record { least = bounds .0; most = bounds .1; total-positive = omega (arith, positive, ap (λ (y : SheetRun). y .total) e) }
+
+-- The answer, from what is left to ask and the list's shares.
+pub answer-asked : (s : List ℕ) (demand : ℕ) (v : Evaluation Tree) (r : SheetRun) → r ≡ sheetRunOf v s → (b : Shares) → b ≡ sharesOf demand (askedList v s)
+    → record { number = r .number; total = r .total; belief = b .belief; plausibility = b .plausibility; pairs = r .pairs; intervals = r .intervals }
+    ≡ answerOf v (structure s) (components s) demand
+answer-asked s demand (refused k) r e b f =
+    λ i. record { number = e i .number; total = e i .total; belief = f i .belief; plausibility = f i .plausibility; pairs = e i .pairs; intervals = e i .intervals }
+answer-asked s demand (completed stack pairs) r e b f =
+    (λ i. record { number = e i .number; total = e i .total; belief = f i .belief; plausibility = f i .plausibility; pairs = e i .pairs; intervals = e i .intervals })
+    ∙ (λ i.
+    record {
+      number = 0;
+      total = total (components s);
+      belief = belief-collect demand (sheetOutcomes s) i;
+      plausibility = plausibility-collect demand (sheetOutcomes s) i;
+      pairs = pairs;
+      intervals = length (sheetList s);
+    })

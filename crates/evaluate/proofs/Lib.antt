@@ -1,5 +1,6 @@
--- What is proved of the call's definitions.
+-- What is proved of the calls' definitions.
 pub mod Bench
 pub mod Numbers
 pub mod Finish
 pub mod Demands
+pub mod SpeedMet

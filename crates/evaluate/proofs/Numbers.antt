@@ -3,25 +3,26 @@ use Prim.Native.Nat.{ℕ, zero, suc, _≤_, _<_}
 use mathlib.Core.Path.{_≡_, refl, sym, ap, _∙_}
 use mathlib.Core.Bool.{Bool, true, false, cond}
 use mathlib.Core.Logic.{_⊎_}
-use mathlib.Core.List.{List, [], _∷_}
+use mathlib.Core.List.{List, [], _∷_, _++_, append-nil}
 use native.Mathlib.Decide.{ℕ-discrete}
 use native.Mathlib.Omega.{arith}
-use lib.Dec.{ltb}
+use lib.Dec.{ltb, eqb}
 use lib.ListN.{length}
-use borrow.Author.Tests.{lt-ltb, le-ltb, ltb-false}
+use borrow.Author.Tests.{lt-ltb, le-ltb, ltb-false, ne-eqb}
 use Rattle.theory.specs.Sums.{Every}
 use Rattle.theory.specs.Structure.{Tree}
-use Rattle.theory.specs.Lists.{driveList}
 use Rattle.theory.specs.Evaluation.{Evaluation, completed, refused}
 use Rattle.theory.proofs.Method.{evaluate-refused}
 use Rattle.reading.specs.declared.Reading.{Reading}
-use Rattle.plan.specs.Tests.{Test, test, firstBroken, Unbroken}
+use Rattle.plan.specs.Tests.{Test, test, firstBroken, Unbroken, outside, anyOf}
 use Rattle.reading.specs.Reading.{sheetTests, readOf}
 use Rattle.reading.proofs.Decided.{read-number}
-use Rattle.plan.proofs.Numbers.{no-number, number-never, first-found, first-none}
+use Rattle.plan.proofs.Numbers.{no-number, number-never, first-found, first-none, first-then}
 use Rattle.run.specs.Run.{needed}
-use Rattle.evaluate.specs.Answer.{planOf, components, structure, callTests, testedOf, evaluated, testedFirst, ending, answerOf, answer}
-use Rattle.evaluate.specs.Store.{isLate, storeBy, storeAfter}
+use Rattle.evaluate.specs.Answer.{planOf, components, structure, callTests, testedOf, evaluated, testedFirst, endingAt, ending, answerWith, answer}
+use Rattle.evaluate.specs.Store.{isLate, storeWith, storeAfter}
+use Rattle.evaluate.specs.SheetRun.{numberThen}
+use Rattle.evaluate.specs.Speed.{speedTests, promiseOf, promise, speedStoreAfter}
 
 -- The tests of a call.
 module _ (s : List ℕ) (room : ℕ) where
@@ -33,12 +34,6 @@ module _ (s : List ℕ) (room : ℕ) where
 
   number-read : (readOf s) .number ≡ 0 → firstBroken (callTests s room) ≡ cond (ltb room (needed (planOf s))) 12 0
   number-read z = first-none twelve (no-number 11 (sheetTests s) refl (sym (read-number s) ∙ z))
-
-  pub tests-kept : firstBroken (callTests s room) ≡ 0 → Every Unbroken (callTests s room)
-  tests-kept = no-number 12 (callTests s room) refl
-
-  pub tests-early : isLate (firstBroken (callTests s room)) ≡ false
-  tests-early = number-never isLate refl (callTests s room) refl
 
   -- What is known of a sheet and a store where no test is broken.
   pub tests-say : firstBroken (callTests s room) ≡ 0 → ((readOf s) .number ≡ 0) × (needed (planOf s) ≤ room)
@@ -71,28 +66,78 @@ module _ (s : List ℕ) (room : ℕ) where
   unfolding testedOf
   tested-is = refl
 
--- What a call ends in: refused by a test, at a join, or accepted.
-pub data Ended (s : List ℕ) (allowance room : ℕ) : Evaluation Tree → Type 0 where
-  tested : {k : ℕ} → 0 < k → isLate k ≡ false → firstBroken (callTests s room) ≡ k → Ended s allowance room (refused k)
-  stopped : {k : ℕ} → firstBroken (callTests s room) ≡ 0 → (k ≡ 13) ⊎ (k ≡ 14) → evaluated s allowance ≡ refused k → Ended s allowance room (refused k)
-  passed : {stack : List Tree} {pairs : ℕ} → firstBroken (callTests s room) ≡ 0 → evaluated s allowance ≡ completed stack pairs
-      → Ended s allowance room (completed stack pairs)
+-- ---- the tests of any call
 
-pub ended : (s : List ℕ) (allowance room : ℕ) → Ended s allowance room (ending s allowance room)
-ended s allowance room = go (firstBroken (callTests s room)) refl (evaluated s allowance) refl
+-- Where none is broken all are kept, and their number is never 13 or 14.
+pub record Numbered (tests : List Test) : Type 0 where
+  pub kept : firstBroken tests ≡ 0 → Every Unbroken tests
+  pub early : isLate (firstBroken tests) ≡ false
+
+-- It is seen by two tests of all numbers.
+numbered-by : (tests : List Test) → anyOf (λ t. outside 1 16 (t .number)) tests ≡ false → anyOf (λ t. isLate (t .number)) tests ≡ false → Numbered tests
+numbered-by tests e f = record { kept = no-number 16 tests e; early = number-never isLate refl tests f }
+
+pub call-numbered : (s : List ℕ) (room : ℕ) → Numbered (callTests s room)
+call-numbered s room = numbered-by (callTests s room) refl refl
+
+pub speed-numbered : (s : List ℕ) (target room : ℕ) → Numbered (speedTests s target room)
+speed-numbered s target room = numbered-by (speedTests s target room) refl refl
+
+-- A call's own tests come behind the others.
+module _ (s : List ℕ) (room : ℕ) where
+  pub number-then : (own : List Test) → numberThen s room (firstBroken own) ≡ firstBroken (callTests s room ++ own)
+  number-then own = first-then 12 (callTests s room) own refl
+
+  pub number-alone : numberThen s room 0 ≡ firstBroken (callTests s room)
+  number-alone = number-then [] ∙ ap firstBroken (append-nil (callTests s room))
+
+  pub number-passed : (own : ℕ) → numberThen s room own ≡ 0 → firstBroken (callTests s room) ≡ 0
+  number-passed own = go (firstBroken (callTests s room))
+    where
+      go : (k : ℕ) → cond (eqb k 0) own k ≡ 0 → k ≡ 0
+      go zero e = refl
+      go (suc k) e = rw (ne-eqb (suc k) 0 (λ z. omega arith)) at e
+
+  pub own-passed : (own : ℕ) → numberThen s room own ≡ 0 → own ≡ 0
+  own-passed own e = rw (number-passed own e) at e
+
+  pub number-early : (own : ℕ) → isLate own ≡ false → isLate (numberThen s room own) ≡ false
+  number-early own h = go (firstBroken (callTests s room)) (call-numbered s room .early)
+    where
+      go : (k : ℕ) → isLate k ≡ false → isLate (cond (eqb k 0) own k) ≡ false
+      go zero e = h
+      go (suc k) e = rw (ne-eqb (suc k) 0 (λ z. omega arith)) e
+
+-- What a call ends in, by the number of its tests: refused by a test, at a join, or accepted.
+pub data Ended (number : ℕ) (s : List ℕ) (allowance : ℕ) : Evaluation Tree → Type 0 where
+  tested : {k : ℕ} → 0 < k → number ≡ k → Ended number s allowance (refused k)
+  stopped : {k : ℕ} → number ≡ 0 → (k ≡ 13) ⊎ (k ≡ 14) → evaluated s allowance ≡ refused k → Ended number s allowance (refused k)
+  passed : {stack : List Tree} {pairs : ℕ} → number ≡ 0 → evaluated s allowance ≡ completed stack pairs → Ended number s allowance (completed stack pairs)
+
+pub ended : (number : ℕ) (s : List ℕ) (allowance : ℕ) → Ended number s allowance (endingAt number s allowance)
+ended number s allowance = go number refl (evaluated s allowance) refl
   where
-    go : (n : ℕ) → firstBroken (callTests s room) ≡ n → (v : Evaluation Tree) → evaluated s allowance ≡ v → Ended s allowance room (testedFirst n v)
+    go : (n : ℕ) → number ≡ n → (v : Evaluation Tree) → evaluated s allowance ≡ v → Ended number s allowance (testedFirst n v)
     go zero z (completed stack pairs) q = passed z q
     go zero z (refused k) q = stopped z (evaluate-refused (components s) allowance (structure s) k q) q
-    go (suc k) z v q = tested {k = suc k} (omega arith) (ap isLate (sym z) ∙ tests-early s room) z
+    go (suc k) z v q = tested {k = suc k} (omega arith) z
 
--- The answer and the store follow.
-module _ (s : List ℕ) (allowance : ℕ) {v : Evaluation Tree} where
-  pub answered-by : (demand room : ℕ) → ending s allowance room ≡ v → answer s demand allowance room ≡ answerOf v (structure s) (components s) demand
-  unfolding answer
-  answered-by demand room e = ap (λ (w : Evaluation Tree). answerOf w (structure s) (components s) demand) e
+-- ---- what the contracts name, by its definition
 
-  pub stored-by : (store : List ℕ) → ending s allowance (length store) ≡ v
-      → storeAfter s allowance store ≡ storeBy v (needed (planOf s)) (driveList (structure s) (components s)) store
-  unfolding storeAfter
-  stored-by store e = ap (λ (w : Evaluation Tree). storeBy w (needed (planOf s)) (driveList (structure s) (components s)) store) e
+pub answer-is : (s : List ℕ) (demand allowance room : ℕ) → answer s demand allowance room ≡ answerWith (callTests s room) s demand allowance
+unfolding answer
+answer-is s demand allowance room = refl
+
+pub store-is : (s : List ℕ) (allowance : ℕ) (store : List ℕ) → storeAfter s allowance store ≡ storeWith (callTests s (length store)) s allowance store
+unfolding storeAfter
+store-is s allowance store = refl
+
+pub promise-is : (s : List ℕ) (target allowance room : ℕ)
+    → promise s target allowance room ≡ promiseOf (ending (speedTests s target room) s allowance) (structure s) (components s) target
+unfolding promise
+promise-is s target allowance room = refl
+
+pub speed-store-is : (s : List ℕ) (target allowance : ℕ) (store : List ℕ)
+    → speedStoreAfter s target allowance store ≡ storeWith (speedTests s target (length store)) s allowance store
+unfolding speedStoreAfter
+speed-store-is s target allowance store = refl

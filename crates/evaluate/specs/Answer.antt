@@ -1,4 +1,4 @@
--- What a call on a sheet, a demand and an allowance answers. Assumes nothing.
+-- What a call answers: in general, by its tests, and on a sheet, a demand and an allowance. Assumes nothing.
 use Prim.Native.Nat.{ℕ, zero, suc}
 use mathlib.Core.List.{List, [], _∷_, _++_}
 use lib.Dec.{ltb}
@@ -53,9 +53,12 @@ abbrev pub testedFirst : {A : Type 0} → ℕ → Evaluation A → Evaluation A
 testedFirst zero run = run
 testedFirst (suc k) run = refused (suc k)
 
--- What a call ends in.
-abbrev pub ending : List ℕ → ℕ → ℕ → Evaluation Tree
-ending sheet allowance room = testedFirst (firstBroken (callTests sheet room)) (evaluated sheet allowance)
+-- What a call ends in, by the number of its tests, and by the tests: the first that is broken decides.
+abbrev pub endingAt : ℕ → List ℕ → ℕ → Evaluation Tree
+endingAt number sheet allowance = testedFirst number (evaluated sheet allowance)
+
+abbrev pub ending : List Test → List ℕ → ℕ → Evaluation Tree
+ending tests sheet allowance = endingAt (firstBroken tests) sheet allowance
 
 -- A refusal answers its number and zeros.
 abbrev pub refusal : ℕ → Answer
@@ -74,6 +77,10 @@ answerOf (completed stack pairs) es cs demand =
       intervals = length (driveList es cs);
     }
 
+-- The answer of a call with these tests.
+abbrev pub answerWith : List Test → List ℕ → ℕ → ℕ → Answer
+answerWith tests sheet demand allowance = answerOf (ending tests sheet allowance) (structure sheet) (components sheet) demand
+
 -- The answer for a sheet, a demand, an allowance and a store of `room` bytes.
 unfoldable pub answer : List ℕ → ℕ → ℕ → ℕ → Answer
-answer sheet demand allowance room = answerOf (ending sheet allowance room) (structure sheet) (components sheet) demand
+answer sheet demand allowance room = answerWith (callTests sheet room) sheet demand allowance

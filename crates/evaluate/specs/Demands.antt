@@ -1,6 +1,6 @@
--- The three demands, as statements about what the contracts of the call, the reader and the writer name: `answer`, `storeAfter`, `readOf`,
--- `writtenOf`, `bytesAfter`. They are proved in proofs/Demands.antt; what the reader decides by itself is reading's `Decided`. Assumes
--- nothing.
+-- The three demands, as statements about what the contracts of the calls, the reader and the writer name: `answer`, `storeAfter`, `promise`,
+-- `speedStoreAfter`, `readOf`, `writtenOf`, `bytesAfter`. They are proved in proofs/Demands.antt and proofs/SpeedMet.antt; what the reader
+-- decides by itself is reading's `Decided`. Assumes nothing.
 use Prim.Native.Nat.{ℕ, _^_, _≤_, _<_}
 use mathlib.Core.Path.{_≡_}
 use mathlib.Core.Logic.{_⊎_, _↔_}
@@ -15,11 +15,12 @@ use Rattle.theory.specs.Order.{InOrder}
 use Rattle.theory.specs.Lists.{listOf, totalOf}
 use Rattle.theory.specs.Evaluation.{pairCount, completed, refused}
 use Rattle.theory.specs.Bounds.{Bounds}
+use Rattle.theory.specs.Speed.{Promised}
 use Rattle.theory.specs.Limits.{mostTotal, mostComponents}
 use Rattle.numbers.specs.Numbers.{Bytes}
 use Rattle.records.specs.Records.{records}
 use Rattle.plan.specs.declared.Plan.{Plan}
-use Rattle.plan.specs.Tests.{Unbroken, First}
+use Rattle.plan.specs.Tests.{Test, Unbroken, First}
 use Rattle.plan.specs.Plan.{cleanedPlan}
 use Rattle.reading.specs.Reading.{readOf}
 use Rattle.writing.specs.declared.Written.{Written}
@@ -29,19 +30,33 @@ use Rattle.run.specs.Run.{needed, cleared}
 use Rattle.evaluate.specs.declared.Answer.{Answer}
 use Rattle.evaluate.specs.Answer.{planOf, components, structure, sheetOutcomes, sheetList, callTests, evaluated, refusal, answer}
 use Rattle.evaluate.specs.Store.{storeAfter}
+use Rattle.evaluate.specs.declared.Promise.{Promise}
+use Rattle.evaluate.specs.Speed.{speedTests, promise, speedStoreAfter}
 
--- No rule is broken: none of 1 to 12 by the tests, and the plan runs past every join without 13 or 14.
-pub record Passed (s : List ℕ) (allowance room : ℕ) : Type 0 where
-  pub tests : Every Unbroken (callTests s room)
+-- No rule is broken: none of a call's tests, and the plan runs past every join without 13 or 14.
+pub record Passed (tests : List Test) (s : List ℕ) (allowance : ℕ) : Type 0 where
+  pub unbroken : Every Unbroken tests
   pub stack : List Tree
   pub pairs : ℕ
   pub runs : evaluated s allowance ≡ completed stack pairs
 
--- The number k is that of the first rule that is broken: of 1 to 12, each looking at everything before the next; then 13 or 14 at a join, as
--- the evaluation looks for them.
-pub data Broken (s : List ℕ) (allowance room : ℕ) : ℕ → Type 0 where
-  by-test : {k : ℕ} → First (callTests s room) k → Broken s allowance room k
-  by-join : {k : ℕ} → Every Unbroken (callTests s room) → (k ≡ 13) ⊎ (k ≡ 14) → evaluated s allowance ≡ refused k → Broken s allowance room k
+-- The number k is that of the first rule that is broken: of the tests, each looking at everything before the next; then 13 or 14 at a
+-- join, as the evaluation looks for them.
+pub data Broken (tests : List Test) (s : List ℕ) (allowance : ℕ) : ℕ → Type 0 where
+  by-test : {k : ℕ} → First tests k → Broken tests s allowance k
+  by-join : {k : ℕ} → Every Unbroken tests → (k ≡ 13) ⊎ (k ≡ 14) → evaluated s allowance ≡ refused k → Broken tests s allowance k
+
+-- Demand 1, for every call on a sheet s with these tests: what is answered, and the store before and after.
+module _ (tests : List Test) (s : List ℕ) (allowance : ℕ) (answered : Answer) (store after : List ℕ) where
+  pub record Demand-1 : Type 0 where
+    -- It is accepted exactly when no rule is broken; otherwise it has the one number of the first that is, and zero for everything else.
+    pub accepted : (answered .number ≡ 0) ↔ Passed tests s allowance
+    pub refused-by : (k : ℕ) → 0 < k → (answered .number ≡ k) ↔ Broken tests s allowance k
+    pub zeros : (k : ℕ) → 0 < k → answered .number ≡ k → answered ≡ refusal k
+    -- The store has the drive's list and zeros after acceptance, zeros after 13 and 14, and is otherwise as it was.
+    pub store-accepted : answered .number ≡ 0 → after ≡ settled (needed (planOf s)) (sheetList s) store
+    pub store-late : (k : ℕ) → (k ≡ 13) ⊎ (k ≡ 14) → answered .number ≡ k → after ≡ cleared (needed (planOf s)) store
+    pub store-kept : (k : ℕ) → 0 < k → (k ≡ 13 → ⊥) → (k ≡ 14 → ⊥) → answered .number ≡ k → after ≡ store
 
 -- A call on the sheet s.
 module _ (s : List ℕ) (demand allowance : ℕ) (store : List ℕ) where
@@ -51,17 +66,6 @@ module _ (s : List ℕ) (demand allowance : ℕ) (store : List ℕ) where
 
   abbrev pub answered : Answer
   answered = answerAt demand
-
-  -- Demand 1, for every sheet, demand, allowance and store.
-  pub record Demand-1 : Type 0 where
-    -- It is accepted exactly when no rule is broken; otherwise it has the one number of the first that is, and zero for everything else.
-    pub accepted : (answered .number ≡ 0) ↔ Passed s allowance (length store)
-    pub refused-by : (k : ℕ) → 0 < k → (answered .number ≡ k) ↔ Broken s allowance (length store) k
-    pub zeros : (k : ℕ) → 0 < k → answered .number ≡ k → answered ≡ refusal k
-    -- The store has the drive's list and zeros after acceptance, zeros after 13 and 14, and is otherwise as it was.
-    pub store-accepted : answered .number ≡ 0 → storeAfter s allowance store ≡ settled (needed (planOf s)) (sheetList s) store
-    pub store-late : (k : ℕ) → (k ≡ 13) ⊎ (k ≡ 14) → answered .number ≡ k → storeAfter s allowance store ≡ cleared (needed (planOf s)) store
-    pub store-kept : (k : ℕ) → 0 < k → (k ≡ 13 → ⊥) → (k ≡ 14 → ⊥) → answered .number ≡ k → storeAfter s allowance store ≡ store
 
   -- Demand 2, for an accepted call.
   pub record Demand-2 : Type 0 where
@@ -98,9 +102,30 @@ module _ (s : List ℕ) (demand allowance : ℕ) (store : List ℕ) where
 
   -- The three on one call.
   pub record DemandsMet : Type 0 where
-    pub first : Demand-1
+    pub first : Demand-1 (callTests s (length store)) s allowance answered store (storeAfter s allowance store)
     pub second : answered .number ≡ 0 → Demand-2
     pub third : answered .number ≡ 0 → Demand-3
+
+-- A call for a speed on the sheet s.
+module _ (s : List ℕ) (target allowance : ℕ) (store : List ℕ) where
+  abbrev pub promised : Promise
+  promised = promise s target allowance (length store)
+
+  -- Belief as a function of the demand, by the ordinary call.
+  abbrev pub beliefAt : ℕ → ℕ
+  beliefAt d = (answer s d allowance (length store)) .belief
+
+  pub record SpeedMet : Type 0 where
+    -- Demand 1, with 16 behind 12. A refused call's speed is 0.
+    pub first : Demand-1 (speedTests s target (length store)) s allowance (promised .answer) store (speedStoreAfter s target allowance store)
+    pub speed-zero : (k : ℕ) → 0 < k → promised .answer .number ≡ k → promised .speed ≡ 0
+    -- But for 16 the other answers and the store are those of an ordinary call with that speed as its demand: where it is accepted,
+    -- demands 2 and 3 hold of them.
+    pub as-ordinary : (promised .answer .number ≡ 16 → ⊥) → promised .answer ≡ answer s (promised .speed) allowance (length store)
+    pub store-as-ordinary : (promised .answer .number ≡ 16 → ⊥) → speedStoreAfter s target allowance store ≡ storeAfter s allowance store
+    -- The speed of an accepted call is the greatest of all demands that meet the target, and no other number is.
+    pub greatest : promised .answer .number ≡ 0 → Promised target (promised .answer .total) beliefAt (promised .speed)
+    pub no-other : promised .answer .number ≡ 0 → (v : ℕ) → Promised target (promised .answer .total) beliefAt v → v ≡ promised .speed
 
 -- Demand 1 for the writer, for every plan and buffer: its tests decide in the same way; refused it writes nothing, accepted it leaves the
 -- bytes behind the sheet; no sheet is longer than 224 bytes, and unused places are ignored.

@@ -1,13 +1,18 @@
-// The call on a sheet, a demand and an allowance: the tests, the run, and what is asked of the list.
+// The calls on a sheet: the tests and the run, which all calls share, and what each asks of the list.
 ghost use mathlib.Core.Path.{_≡_};
+ghost use mathlib.Core.Bool.{false};
 ghost use lib.ListN.{length};
 ghost use Rattle.theory.specs.Masses.{total};
 ghost use Rattle.plan.specs.Plan.{componentsOf};
 ghost use Rattle.plan.specs.Valid.{Valid};
-ghost use Rattle.evaluate.specs.Answer.{refusal, testedOf, answer};
-ghost use Rattle.evaluate.specs.Store.{storeAfter};
+ghost use Rattle.plan.specs.Tests.{firstBroken};
+ghost use Rattle.evaluate.specs.Answer.{testedOf, endingAt, answer};
+ghost use Rattle.evaluate.specs.Store.{isLate, storeAt, storeAfter};
+ghost use Rattle.evaluate.specs.SheetRun.{numberThen, refusedRun, sheetRunOf};
+ghost use Rattle.evaluate.specs.Speed.{targetTests, promise, speedStoreAfter};
 use plan::Plan;
 use reading::Reading;
+use theory::THOUSANDTHS;
 
 // What a call answers: the number of the refusal and zeros, or 0, the total U, the two shares of it, the pairs formed and the length
 // of the drive's list.
@@ -20,17 +25,19 @@ pub struct Answer {
     pub intervals: u64,
 }
 
-fn refuse(number: u8) -> Answer
-    ensures { λ r. ⌜ r ≡ refusal number ⌝ }
-{
-    Answer {
-        number,
-        total: 0,
-        belief: 0,
-        plausibility: 0,
-        pairs: 0,
-        intervals: 0,
-    }
+// What a call for a speed answers: the speed, and the answer of a call with that speed as its demand.
+pub struct Promise {
+    pub answer: Answer,
+    pub speed: u64,
+}
+
+// What tests and run leave to ask: the number of the refusal and zeros, or 0, the total U, the pairs formed and the length of the
+// drive's list.
+pub struct SheetRun {
+    pub number: u8,
+    pub total: u64,
+    pub pairs: u64,
+    pub intervals: usize,
 }
 
 // The tests of a call on a store of `room` bytes: the number of the first that is broken, or 0, and the plan.
@@ -65,29 +72,85 @@ fn total_of(p: Plan) -> u64
     product
 }
 
-// The call. It answers for any sheet, demand, allowance and store, and leaves every byte of the store as `storeAfter` says.
-pub fn bounds(sheet: &[u8], demand: u32, allowance: u32, store: &mut [u8]) -> Answer
-    ensures { λ r. ⌜ r ≡ answer (now (sheet .entry)) demand allowance (length (now (store .entry))) ⌝ }
-    ensures { λ _. ⌜ now (store .exit) ≡ storeAfter (now (sheet .entry)) allowance (now (store .entry)) ⌝ }
+fn refuse(number: u8) -> SheetRun
+    ensures { λ r. ⌜ r ≡ refusedRun number ⌝ }
+{
+    SheetRun {
+        number,
+        total: 0,
+        pairs: 0,
+        intervals: 0,
+    }
+}
+
+// Tests and run of every call. `own` is the number of the call's own tests, which come behind 1 to 12 and before 13 and 14.
+fn run_sheet(sheet: &[u8], own: u8, allowance: u32, store: &mut [u8]) -> SheetRun
+    requires { ⌜ isLate own ≡ false ⌝ }
+    ensures { λ r. ⌜ r ≡ sheetRunOf (endingAt (numberThen (now (sheet .entry)) (length (now (store .entry))) own) (now (sheet .entry)) allowance) (now (sheet .entry)) ⌝ }
+    ensures { λ _. ⌜ now (store .exit) ≡ storeAt (numberThen (now (sheet .entry)) (length (now (store .entry))) own) (now (sheet .entry)) allowance (now (store .entry)) ⌝ }
 {
     let t = tested(sheet, store.len());
-    if t.number != 0 {
-        return refuse(t.number);
+    let number = plan::first(own, t.number == 0, t.number);
+    if number != 0 {
+        return refuse(number);
     }
     let p = t.plan;
     let r = run::run_plan(p, allowance, store);
     if r.number != 0 {
         return refuse(r.number);
     }
-    let n = r.intervals;
-    let s = records::shares_at(store, n, demand as u64);
     let u = total_of(p);
-    Answer {
+    SheetRun {
         number: 0,
         total: u,
+        pairs: r.pairs,
+        intervals: r.intervals,
+    }
+}
+
+// The call. It answers for any sheet, demand, allowance and store, and leaves every byte of the store as `storeAfter` says.
+pub fn bounds(sheet: &[u8], demand: u32, allowance: u32, store: &mut [u8]) -> Answer
+    ensures { λ r. ⌜ r ≡ answer (now (sheet .entry)) demand allowance (length (now (store .entry))) ⌝ }
+    ensures { λ _. ⌜ now (store .exit) ≡ storeAfter (now (sheet .entry)) allowance (now (store .entry)) ⌝ }
+{
+    let r = run_sheet(sheet, 0, allowance, store);
+    let n = r.intervals;
+    let s = queries::shares_at(store, n, demand as u64);
+    Answer {
+        number: r.number,
+        total: r.total,
         belief: s.belief,
         plausibility: s.plausibility,
         pairs: r.pairs,
         intervals: n as u64,
+    }
+}
+
+// The number of a target: 16 unless it is 1 to 1,000.
+fn target_number(target: u32) -> u8
+    ensures { λ r. ⌜ r ≡ firstBroken (targetTests target) ⌝ }
+{
+    plan::first(16, plan::either(target < 1, THOUSANDTHS < target as u64), 0)
+}
+
+// The call for a speed. It answers for any sheet, target, allowance and store, and leaves every byte of the store as `speedStoreAfter` says.
+pub fn speed(sheet: &[u8], target: u32, allowance: u32, store: &mut [u8]) -> Promise
+    ensures { λ r. ⌜ r ≡ promise (now (sheet .entry)) target allowance (length (now (store .entry))) ⌝ }
+    ensures { λ _. ⌜ now (store .exit) ≡ speedStoreAfter (now (sheet .entry)) target allowance (now (store .entry)) ⌝ }
+{
+    let r = run_sheet(sheet, target_number(target), allowance, store);
+    let n = r.intervals;
+    let v = queries::speed_for(store, n, target, r.total);
+    let s = queries::shares_at(store, n, v);
+    Promise {
+        answer: Answer {
+            number: r.number,
+            total: r.total,
+            belief: s.belief,
+            plausibility: s.plausibility,
+            pairs: r.pairs,
+            intervals: n as u64,
+        },
+        speed: v,
     }
 }

@@ -2,4 +2,3 @@
 pub mod Records
 pub mod Store
 pub mod Insertion
-pub mod Shares

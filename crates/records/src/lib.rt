@@ -2,17 +2,14 @@
 // significant byte first. Low and high as one number are a record's key.
 
 ghost use mathlib.Core.Path.{_≡_};
-ghost use mathlib.Core.Bool.{cond};
-ghost use Prim.Native.Nat.{_+_, _*_, _-_, _^_, _≤_, _<_};
-ghost use lib.Dec.{leb, isEq};
+ghost use Prim.Native.Nat.{_+_, _*_, _≤_};
+ghost use lib.Dec.{isEq};
 ghost use lib.ListN.{length};
-ghost use Rattle.theory.specs.Focal.{weights};
 ghost use Rattle.theory.specs.Order.{order, InOrder};
 ghost use Rattle.theory.specs.Limits.{recordBytes};
 ghost use Rattle.records.specs.Records.{recordAt, records, withWeight, keyOf, keyed};
 ghost use Rattle.records.specs.Store.{withRecord, movedUp, movedToFront, zeroed, holding, listIn, settled};
 ghost use Rattle.records.specs.Insertion.{isBefore, place, insertionOf, insertOrStay, Insertable};
-ghost use Rattle.records.specs.Shares.{sharesOf};
 use theory::RECORD_BYTES;
 
 // Low and high take 16 bits each: a key is low * SPEED_LIMIT + high.
@@ -22,12 +19,6 @@ pub const SPEED_LIMIT: u64 = 65536;
 pub struct Insertion {
     pub count: usize,
     pub place: usize,
-}
-
-// Belief and plausibility of a list at a demand, over the sum of its weights.
-pub struct Shares {
-    pub belief: u64,
-    pub plausibility: u64,
 }
 
 // The key of record i.
@@ -173,35 +164,6 @@ pub fn insert(s: &mut [u8], n: usize, key: u64, weight: u64, hint: usize) -> Ins
             count: n + 1,
             place: p,
         }
-    }
-}
-
-// What an interval's weight counts at a demand, by one of its ends.
-fn counted(end: u64, weight: u64, demand: u64) -> u64
-    ensures { λ r. ⌜ r ≡ cond (leb demand end) weight 0 ⌝ }
-{
-    if demand <= end { weight } else { 0 }
-}
-
-// Belief and plausibility of the first n records at a demand.
-pub fn shares_at(s: &[u8], n: usize, demand: u64) -> Shares
-    requires { ⌜ recordBytes * n ≤ length (now s) ⌝ }
-    requires { ⌜ weights (records n (now s)) < 2 ^ 64 ⌝ }
-    ensures { λ r. ⌜ r ≡ sharesOf demand (records n (now (s .entry))) ⌝ }
-{
-    let mut belief: u64 = 0;
-    let mut plausibility: u64 = 0;
-    let mut i = 0;
-    while i < n {
-        let key = key_at(s, i);
-        let weight = weight_at(s, i);
-        belief += counted(key / SPEED_LIMIT, weight, demand);
-        plausibility += counted(key % SPEED_LIMIT, weight, demand);
-        i += 1;
-    }
-    Shares {
-        belief,
-        plausibility,
     }
 }
 

@@ -1,7 +1,7 @@
 -- `collect` puts a list in order and keeps every weighted sum; a list in order is determined by its weights. Assumes nothing.
-use Prim.Native.Nat.{ℕ, _+_, _*_, Ordering, Ordering·lt, Ordering·eq, Ordering·gt}
+use Prim.Native.Nat.{ℕ, _+_, _*_, _≤_, Ordering, Ordering·lt, Ordering·eq, Ordering·gt}
 use mathlib.Core.Path.{_≡_, refl, sym, ap, ap₂, _∙_}
-use mathlib.Core.Bool.{Bool, true, cond, _&&_}
+use mathlib.Core.Bool.{Bool, true, false, cond, _&&_}
 use mathlib.Core.List.{List, [], _∷_}
 use native.Mathlib.Nat.{add-mul, mul-one}
 use native.Mathlib.Omega.{arith}
@@ -11,7 +11,7 @@ use Rattle.theory.specs.Sums.{sumBy, Every}
 use Rattle.theory.specs.Focal.{Focal, weights, Positive}
 use Rattle.theory.specs.Choices.{weightWhere, belief, plausibility, weightAt}
 use Rattle.theory.specs.Order.{order, Before, InOrder, merged, insertedAt, inserted, collect}
-use Rattle.theory.proofs.Sums.{sum-ext, cond-mul}
+use Rattle.theory.proofs.Sums.{sum-ext, sum-le, cond-mul}
 use Rattle.theory.proofs.Order.{Placed, placed, before-trans, before-apart}
 use Rattle.theory.proofs.Every.{every-map}
 
@@ -68,6 +68,14 @@ every-collect P m (Every.more {x = f} p r) = every-insert P m f p (every-collect
 
 pub positive-collect : {fs : List Focal} → Every Positive fs → Every Positive (collect fs)
 positive-collect = every-collect Positive (λ g h q t. omega arith)
+
+-- The weights that pass a test are never above the sum of all.
+pub where-le : (test : ℕ → ℕ → Bool) (fs : List Focal) → weightWhere test fs ≤ weights fs
+where-le test = sum-le (λ f. at-most (test (f .low) (f .high)) (f .weight))
+  where
+    at-most : (b : Bool) (w : ℕ) → cond b w 0 ≤ w
+    at-most true w = omega arith
+    at-most false w = omega arith
 
 -- The weights that pass a test are a weighted sum: so belief, plausibility, the weight at an interval and the sum of the weights are kept.
 where-weigh : (test : ℕ → ℕ → Bool) (fs : List Focal) → weightWhere test fs ≡ weigh (λ a b. cond (test a b) 1 0) fs

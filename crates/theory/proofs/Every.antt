@@ -9,6 +9,10 @@ pub every-map : {A : Type 0} {P Q : A → Type 0} → ((x : A) → P x → Q x) 
 every-map h Every.none = Every.none
 every-map h (Every.more {x = x} p r) = Every.more (h x p) (every-map h r)
 
+pub every-all : {A : Type 0} {P : A → Type 0} → ((x : A) → P x) → (xs : List A) → Every P xs
+every-all h [] = Every.none
+every-all h (x ∷ xs) = Every.more (h x) (every-all h xs)
+
 -- The property holds of an element, or of what stands past the end.
 pub every-getD : {A : Type 0} (P : A → Type 0) (z : A) → P z → {xs : List A} → Every P xs → (i : ℕ) → P (getD xs i z)
 every-getD P z e Every.none i = e

@@ -15,3 +15,4 @@ pub mod Totals
 pub mod Shares
 pub mod Range
 pub mod Bounds
+pub mod Speed

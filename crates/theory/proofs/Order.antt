@@ -47,6 +47,11 @@ pub before-same : (f g h : Focal) → f .low ≡ h .low → f .high ≡ h .high 
 before-same f g h p q (inl b) = inl (omega arith)
 before-same f g h p q (inr b) = inr (omega arith)
 
+-- The earlier of two intervals has the lower low, or the same.
+pub before-low : (f g : Focal) → Before f g → f .low ≤ g .low
+before-low f g (inl p) = omega arith
+before-low f g (inr p) = omega arith
+
 -- At most one of the three holds, so `order` says which.
 never : (f g : Focal) → f .low ≡ g .low → f .high ≡ g .high → Before f g → ⊥
 never f g p q (inl h) = omega arith

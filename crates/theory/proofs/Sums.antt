@@ -8,7 +8,7 @@ use native.Mathlib.Nat.{mul-one, add-zero, add-assoc, zero-add, mul-zero, mul-ad
 use native.Mathlib.Numerals.{add-one}
 use native.Mathlib.Omega.{arith}
 use lib.Dec.{eqb}
-use lib.ListN.{length, getD, take, length-map}
+use lib.ListN.{length, getD, take, drop, length-map}
 use lib.Seq.{take-suc}
 use borrow.Author.Tests.{eqb-true, eqb-false, ne-eqb}
 use Rattle.theory.specs.Sums.{sumBy, forEach, oneOfEach, countFrom}
@@ -25,6 +25,11 @@ module _ {A : Type 0} where
   pub sum-le : {f g : A → ℕ} → ((x : A) → f x ≤ g x) → (xs : List A) → sumBy f xs ≤ sumBy g xs
   sum-le h [] = le-refl 0
   sum-le h (x ∷ xs) = add-le-add (h x) (sum-le h xs)
+
+  pub sum-drop : (f : A → ℕ) (n : ℕ) (xs : List A) → sumBy f (drop n xs) ≤ sumBy f xs
+  sum-drop f zero xs = le-refl (sumBy f xs)
+  sum-drop f (suc n) [] = le-refl 0
+  sum-drop f (suc n) (x ∷ xs) = omega (arith, sum-drop f n xs)
 
   pub sum-scale : (k : ℕ) (f : A → ℕ) (xs : List A) → sumBy (λ x. k * f x) xs ≡ k * sumBy f xs
   sum-scale k f [] = sym (mul-zero k)

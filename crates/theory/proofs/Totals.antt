@@ -3,7 +3,7 @@ use Prim.Native.Nat.{ℕ, _+_, _*_, _^_, _≤_, _<_}
 use mathlib.Core.Path.{_≡_, refl, sym, ap, ap₂, subst, _∙_}
 use mathlib.Core.List.{List, [], _∷_, _++_, map}
 use mathlib.Core.Bool.{true}
-use native.Mathlib.Nat.{mul-one, one-mul, mul-assoc, mul-comm, mul-le-mul, le-trans, le-of-eq, pow-zero, pow-suc, pow-le-pow-right}
+use native.Mathlib.Nat.{mul-one, one-mul, mul-assoc, mul-comm, mul-le-mul, mul-pos, le-trans, le-of-eq, pow-zero, pow-suc, pow-le-pow-right}
 use native.Mathlib.Omega.{arith}
 use lib.Pow.{pow-add}
 use lib.ListN.{length, getD, length-append}
@@ -68,6 +68,10 @@ product-le f k (Every.more {xs = xs} p r) =
 -- U is at most 10 to the 18th for six components.
 pub total-le : {cs : List Component} → Every (λ c. c .total ≤ mostTotal) cs → total cs ≤ mostTotal ^ length cs
 total-le = product-le (λ c. c .total) mostTotal
+
+pub total-positive : {cs : List Component} → Every (λ c. 1 ≤ c .total) cs → 0 < total cs
+total-positive Every.none = omega arith
+total-positive (Every.more h r) = mul-pos h (total-positive r)
 
 pub thousands : (a b m n : ℕ) → a ≤ mostTotal ^ m → b ≤ mostTotal ^ n → m + n ≤ mostComponents → a * b < 2 ^ 64
 thousands a b m n p q h =

@@ -13,3 +13,4 @@ pub mod Choices
 pub mod Lists
 pub mod Evaluation
 pub mod Bounds
+pub mod Speed

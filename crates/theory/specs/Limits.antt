@@ -41,3 +41,7 @@ listBytes = recordBytes * mostIntervals
 -- The bytes that the store (document 01: the list buffer) needs.
 abbrev pub storeBytes : ℕ
 storeBytes = 16384
+
+-- A target is a share in thousandths, 1 to 1,000.
+abbrev pub thousandths : ℕ
+thousandths = 1000

@@ -1,5 +1,5 @@
 -- Sums and products over lists, counts, and every way to take one element from each list of a row. Assumes nothing.
-use Prim.Native.Nat.{ℕ, zero, suc, _+_, _*_}
+use Prim.Native.Nat.{ℕ, zero, suc, _+_, _*_, max}
 use mathlib.Core.Path.{_≡_}
 use mathlib.Core.Bool.{cond}
 use mathlib.Core.List.{List, [], _∷_, _++_, map}
@@ -15,6 +15,11 @@ module _ {A : Type 0} where
   abbrev pub productBy : (A → ℕ) → List A → ℕ
   productBy f [] = 1
   productBy f (x ∷ xs) = f x * productBy f xs
+
+  -- The greatest of f over a list, 0 for the empty one.
+  abbrev pub greatestBy : (A → ℕ) → List A → ℕ
+  greatestBy f [] = 0
+  greatestBy f (x ∷ xs) = max (f x) (greatestBy f xs)
 
 module _ {A B : Type 0} where
   -- The lists f x, one behind the other.

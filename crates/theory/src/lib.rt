@@ -22,6 +22,8 @@ pub const LIST_BYTES: usize = RECORD_BYTES * MOST_INTERVALS;
 
 pub const STORE_BYTES: usize = 16384;
 
+pub const THOUSANDTHS: u64 = 1000;
+
 // A module: up to eight intervals of speed with their weights, the first `count` places in use, and its total T.
 pub struct Component {
     pub lows: [u16; MOST_HELD],

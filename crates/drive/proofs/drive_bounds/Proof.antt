@@ -1,19 +1,14 @@
 -- `drive::drive_bounds` meets its contract. Assumes nothing.
 use Prim.Native.Nat.{ℕ}
-use mathlib.Core.Path.{_≡_, refl, sym, ap, _∙_}
-use mathlib.Core.List.{List, [], _∷_, _++_}
-use native.Mathlib.Omega.{arith}
-use lib.ListN.{length, drop}
+use mathlib.Core.Path.{sym, ap, _∙_}
+use mathlib.Core.List.{List, _++_}
+use lib.ListN.{drop}
 use Rattle.evaluate.specs.declared.Answer.{Answer}
 use Rattle.drive.specs.Call.{answerBytes, encodeAnswer}
-use Rattle.drive.proofs.Call.{too-short, long-enough}
+use Rattle.drive.proofs.Call.{nothing, too-short, long-enough}
 use borrow.Author.Needs.{needs}
 use Rattle.drive.proofs.drive_bounds.Statement.{statement}
 use Rattle.drive.proofs.drive_bounds.Tie as tie
-
-nothing : (l : List ℕ) → length l ≡ 0 → l ≡ []
-nothing [] e = refl
-nothing (x ∷ l) e = absurd (omega arith)
 
 returns : tie.Need-returns
 returns c =

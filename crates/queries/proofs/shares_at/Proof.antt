@@ -1,6 +1,6 @@
--- `records::shares_at` meets its contract. The invariant: the sums so far and those of what is left give the sums of all. Assumes nothing.
+-- `queries::shares_at` meets its contract. The invariant: the sums so far and those of what is left give the sums of all. Assumes nothing.
 use mathlib.Core.Path.{_≡_, ap, _∙_}
-use mathlib.Core.Bool.{Bool, true, false, cond}
+use mathlib.Core.Bool.{Bool, cond}
 use mathlib.Core.List.{List, []}
 use Prim.Native.Nat.{ℕ, _≤_, _+_, _-_, _/_, _%_}
 use native.Mathlib.Omega.{arith}
@@ -9,19 +9,11 @@ use lib.ListN.{drop}
 use borrow.Author.Needs.{needs}
 use Rattle.theory.specs.Focal.{Focal, weights}
 use Rattle.theory.specs.Choices.{weightWhere, belief, plausibility}
-use Rattle.theory.proofs.Sums.{sum-le}
+use Rattle.theory.proofs.Collect.{where-le}
 use Rattle.records.specs.Records.{recordAt, records, speedLimit}
 use Rattle.records.proofs.Records.{key-ends, records-next, records-end, record-under}
-use Rattle.records.proofs.shares_at.Statement.{statement}
-use Rattle.records.proofs.shares_at.Tie as tie
-
--- The weights that pass a test are never above the sum of all.
-within : (test : ℕ → ℕ → Bool) (l : List Focal) → weightWhere test l ≤ weights l
-within test l = sum-le (λ f. at-most (test (f .low) (f .high)) (f .weight)) l
-  where
-    at-most : (b : Bool) (w : ℕ) → cond b w 0 ≤ w
-    at-most true w = omega arith
-    at-most false w = omega arith
+use Rattle.queries.proofs.shares_at.Statement.{statement}
+use Rattle.queries.proofs.shares_at.Tie as tie
 
 abbrev Inv-loop : tie.InvT-loop
 Inv-loop s n demand belief₀ plausibility₀ i₀ b p i =
@@ -57,7 +49,7 @@ sums : (c : tie.In-loop Inv-loop μ-loop) (test : ℕ → ℕ → Bool) → let 
     (weightWhere test (drop i (list c)) ≡ cond (test (this c .low) (this c .high)) (this c .weight) 0 + weightWhere test (drop (i + 1) (list c)))
     × (weightWhere test (list c) ≤ weights (list c))
 sums c test =
-    (ap (weightWhere test) (records-next (start c .args .n) (c .before .loop .i) (start c .args .s .now) (c .loop-test .taken)), within test (list c))
+    (ap (weightWhere test) (records-next (start c .args .n) (c .before .loop .i) (start c .args .s .now) (c .loop-test .taken)), where-le test (list c))
 
 loop-again : tie.Need-loop-again Inv-loop μ-loop
 loop-again c =

@@ -1,9 +1,9 @@
--- `records::counted` meets its contract. Assumes nothing.
+-- `queries::counted` meets its contract. Assumes nothing.
 use mathlib.Core.Path.{sym, ap}
 use mathlib.Core.Bool.{Bool, cond}
 use borrow.Author.Tests.{le-leb, lt-leb}
-use Rattle.records.proofs.counted.Statement.{statement}
-use Rattle.records.proofs.counted.Tie as tie
+use Rattle.queries.proofs.counted.Statement.{statement}
+use Rattle.queries.proofs.counted.Tie as tie
 
 returns : tie.Need-returns
 returns c = let a = c .before .args in ap (λ (b : Bool). cond b (a .weight) 0) (sym (le-leb (a .demand) (a .end) (c .if1 .taken)))

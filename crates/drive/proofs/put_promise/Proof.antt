@@ -1,0 +1,25 @@
+-- `drive::put_promise` meets its contract: the speed goes behind the answer. Assumes nothing.
+use mathlib.Core.Path.{refl, sym}
+use native.Mathlib.Omega.{arith}
+use Rattle.numbers.specs.Numbers.{bigEndian}
+use Rattle.numbers.proofs.Numbers.{Placed, placed-next}
+use Rattle.drive.specs.Call.{answerBytes, encodeAnswer}
+use Rattle.drive.specs.Speed.{promiseBytes, encodePromise}
+use Rattle.drive.proofs.Call.{length-answer}
+use borrow.Author.Needs.{needs}
+use Rattle.drive.proofs.put_promise.Statement.{statement}
+use Rattle.drive.proofs.put_promise.Tie as tie
+
+returns : tie.Need-returns
+unfolding encodePromise
+returns c =
+    let w = c .before .before in
+    let a = w .before .before .before .before in
+    let s = a .before .before .before .before in
+    let p = s .args .p in
+    let first : Placed (s .args .buffer .now) 0 answerBytes (encodeAnswer (p .answer)) (a .put-answer .last .1 .0) =
+    record { within = omega arith; up-to = omega (arith, length-answer (p .answer)); is = a .put-answer .ensures } in
+    placed-next answerBytes promiseBytes (bigEndian 8 (p .speed)) first refl (omega arith) (omega arith) (omega arith) (w .write-number .ensures) .is
+
+pub put-promise-spec : {M : Type 1} → statement M
+put-promise-spec = tie.close (tie.spec (λ c κs. search needs) (λ c κs. search needs) (λ c. search needs) returns)

@@ -1,0 +1,119 @@
+-- `evaluate::speed` meets its contract: tests and run, the speed of the list, and its shares at the speed. Assumes nothing.
+use Prim.Native.Nat.{ℕ}
+use mathlib.Core.Path.{_≡_, refl, sym, ap, _∙_}
+use mathlib.Core.Bool.{Bool, true, false, cond}
+use mathlib.Core.List.{List}
+use lib.ListN.{length}
+use Rattle.theory.specs.Masses.{total}
+use Rattle.theory.specs.Structure.{Tree}
+use Rattle.theory.specs.Evaluation.{Evaluation, completed, refused}
+use Rattle.theory.specs.Limits.{thousandths}
+use Rattle.theory.specs.Speed.{speedFor}
+use Rattle.plan.specs.Tests.{firstBroken, outside}
+use Rattle.queries.specs.declared.Shares.{Shares}
+use Rattle.queries.specs.Shares.{sharesOf}
+use Rattle.evaluate.specs.declared.Promise.{Promise}
+use Rattle.evaluate.specs.declared.SheetRun.{SheetRun}
+use Rattle.evaluate.specs.Answer.{components, structure, sheetList, endingAt, answerOf}
+use Rattle.evaluate.specs.Store.{isLate, storeAt}
+use Rattle.evaluate.specs.SheetRun.{numberThen, sheetRunOf}
+use Rattle.evaluate.specs.Speed.{targetTests, speedBy, promiseOf}
+use Rattle.evaluate.proofs.Numbers.{number-then, promise-is, speed-store-is}
+use Rattle.evaluate.proofs.Finish.{end, askedList, Readable, readable, target-asked, answer-asked}
+use borrow.Author.Needs.{needs}
+use Rattle.evaluate.proofs.speed.Statement.{statement}
+use Rattle.evaluate.proofs.speed.Tie as tie
+
+-- The speed, from what is left to ask and the list.
+speed-asked : (s : List ℕ) (target : ℕ) (v : Evaluation Tree) (r : SheetRun) → r ≡ sheetRunOf v s
+    → speedFor target (r .total) (askedList v s) ≡ speedBy v target (total (components s)) (sheetList s)
+speed-asked s target (refused k) r e = refl
+speed-asked s target (completed stack pairs) r e = ap (λ (y : SheetRun). speedFor target (y .total) (sheetList s)) e
+
+-- All that is answered.
+promise-asked : (s : List ℕ) (target : ℕ) (v : Evaluation Tree) (r : SheetRun) → r ≡ sheetRunOf v s
+    → (w : ℕ) → w ≡ speedBy v target (total (components s)) (sheetList s) → (b : Shares) → b ≡ sharesOf w (askedList v s)
+    → record {
+      answer =
+          record { number = r .number; total = r .total; belief = b .belief; plausibility = b .plausibility; pairs = r .pairs; intervals = r .intervals };
+      speed = w;
+    } ≡ promiseOf v (structure s) (components s) target
+promise-asked s target v r e w f b g =
+    (λ i. record { answer = answer-asked s w v r e b g i; speed = w })
+    ∙ ap (λ (u : ℕ). record { answer = answerOf v (structure s) (components s) u; speed = u }) f
+
+-- 16 is not late.
+early : (target : ℕ) → isLate (firstBroken (targetTests target)) ≡ false
+early target = go (outside 1 thousandths target)
+  where
+    go : (b : Bool) → isLate (cond b 16 0) ≡ false
+    go true = refl
+    go false = refl
+
+-- Past the run.
+module _ (c : tie.After-run-sheet) where
+  abbrev start : tie.Start
+  start = c .before .before .before .before .before
+
+  abbrev sheet : List ℕ
+  sheet = start .args .sheet .now
+
+  abbrev store : List ℕ
+  store = start .args .store .now
+
+  abbrev after : List ℕ
+  after = c .run-sheet .last .1 .1 .1 .0
+
+  abbrev own : ℕ
+  own = firstBroken (targetTests (start .args .target))
+
+  abbrev ending : Evaluation Tree
+  ending = end sheet own (start .args .allowance) store
+
+  number-is : c .before .before .target-number .result ≡ own
+  number-is = c .before .before .target-number .ensures
+
+  ran : c .run-sheet .result ≡ sheetRunOf ending sheet
+  ran = c .run-sheet .ensures .0 ∙ ap (λ (n : ℕ). sheetRunOf (end sheet n (start .args .allowance) store) sheet) number-is
+
+  stored : after ≡ storeAt (numberThen sheet (length store) own) sheet (start .args .allowance) store
+  stored = c .run-sheet .ensures .1 ∙ ap (λ (n : ℕ). storeAt (numberThen sheet (length store) n) sheet (start .args .allowance) store) number-is
+
+  read : Readable (askedList ending sheet) (c .run-sheet .result .intervals) after
+  read = readable sheet own (start .args .allowance) store (c .run-sheet .result) after ran stored
+
+run-sheet-requires : tie.Need-run-sheet-requires
+run-sheet-requires c κs = ap isLate (c .before .target-number .ensures) ∙ early (c .before .before .before .before .args .target)
+
+speed-for-requires : tie.Need-speed-for-requires
+speed-for-requires c κs =
+    let r = c .before .before .before in
+    let a = start r .args in
+    record {
+      room = read r .room;
+      fits = read r .fits;
+      ordered = read r .ordered;
+      asked = target-asked (sheet r) (a .target) (a .allowance) (store r) (r .run-sheet .result) (ran r);
+    }
+
+shares-at-requires : tie.Need-shares-at-requires
+shares-at-requires c κs = let r = c .before .before .before .before .before in (read r .room, read r .fits)
+
+returns : tie.Need-returns
+returns c =
+    let v = c .before .before in
+    let r = v .before .before .before .before in
+    let a = start r .args in
+    let number = number-then (sheet r) (length (store r)) (targetTests (a .target)) in (
+      promise-asked (sheet r) (a .target) (ending r) (r .run-sheet .result) (ran r)
+          (v .speed-for .result)
+          (v .speed-for .ensures ∙ (ap (speedFor (a .target) (r .run-sheet .result .total)) (read r .list-is) ∙ speed-asked (sheet r) (a .target) (ending r) (r .run-sheet .result) (ran r)))
+          (c .shares-at .result) (c .shares-at .ensures ∙ ap (sharesOf (v .speed-for .result)) (read r .list-is))
+          ∙ (ap (λ (n : ℕ). promiseOf (endingAt n (sheet r) (a .allowance)) (structure (sheet r)) (components (sheet r)) (a .target)) number
+          ∙ sym (promise-is (sheet r) (a .target) (a .allowance) (length (store r)))),
+      stored r
+          ∙ (ap (λ (n : ℕ). storeAt n (sheet r) (a .allowance) (store r)) number ∙ sym (speed-store-is (sheet r) (a .target) (a .allowance) (store r))),
+    )
+
+pub speed-spec : {M : Type 1} → statement M
+speed-spec = tie.close (tie.spec (λ c κs. search needs) run-sheet-requires speed-for-requires shares-at-requires (λ c. search needs) returns)

@@ -1,0 +1,25 @@
+-- What tests and run leave to ask, in every call. Assumes nothing.
+use Prim.Native.Nat.{ℕ}
+use mathlib.Core.Bool.{cond}
+use mathlib.Core.List.{List}
+use lib.Dec.{eqb}
+use lib.ListN.{length}
+use Rattle.theory.specs.Masses.{total}
+use Rattle.theory.specs.Structure.{Tree}
+use Rattle.theory.specs.Evaluation.{Evaluation, completed, refused}
+use Rattle.plan.specs.Tests.{firstBroken}
+use Rattle.evaluate.specs.declared.SheetRun.{SheetRun}
+use Rattle.evaluate.specs.Answer.{components, sheetList, callTests}
+
+-- The number of a call's tests: 1 to 12, then `own`, the number of its own tests.
+abbrev pub numberThen : List ℕ → ℕ → ℕ → ℕ
+numberThen sheet room own = cond (eqb (firstBroken (callTests sheet room)) 0) own (firstBroken (callTests sheet room))
+
+-- A refusal's number and zeros; or 0, U, the pairs formed and the length of the drive's list.
+abbrev pub refusedRun : ℕ → SheetRun
+refusedRun number = record { number = number; total = 0; pairs = 0; intervals = 0 }
+
+abbrev pub sheetRunOf : Evaluation Tree → List ℕ → SheetRun
+sheetRunOf (refused number) sheet = refusedRun number
+sheetRunOf (completed stack pairs) sheet =
+    record { number = 0; total = total (components sheet); pairs = pairs; intervals = length (sheetList sheet) }

@@ -1,0 +1,43 @@
+-- The call for a speed (document 02, request one): the greatest demand whose belief is at least a target. Assumes nothing.
+use Prim.Native.Nat.{ℕ}
+use mathlib.Core.List.{List, [], _∷_, _++_}
+use lib.ListN.{length}
+use Rattle.theory.specs.Limits.{thousandths}
+use Rattle.theory.specs.Focal.{Focal}
+use Rattle.theory.specs.Masses.{total}
+use Rattle.theory.specs.declared.Component.{Component}
+use Rattle.theory.specs.declared.Entry.{Entry}
+use Rattle.theory.specs.Structure.{Tree}
+use Rattle.theory.specs.Lists.{driveList}
+use Rattle.theory.specs.Speed.{speedFor}
+use Rattle.theory.specs.Evaluation.{Evaluation, completed, refused}
+use Rattle.plan.specs.Tests.{Test, test, outside}
+use Rattle.evaluate.specs.declared.Promise.{Promise}
+use Rattle.evaluate.specs.Answer.{components, structure, callTests, ending, answerOf}
+use Rattle.evaluate.specs.Store.{storeWith}
+
+-- Its tests: 1 to 12, as of any call; then 16, the target is not 1 to 1,000.
+abbrev pub targetTests : ℕ → List Test
+targetTests target = test 16 (outside 1 thousandths target) ∷ []
+
+abbrev pub speedTests : List ℕ → ℕ → ℕ → List Test
+speedTests sheet target room = callTests sheet room ++ targetTests target
+
+-- The speed: that of the drive's list; 0 where the call is refused.
+abbrev pub speedBy : Evaluation Tree → ℕ → ℕ → List Focal → ℕ
+speedBy (refused number) target whole list = 0
+speedBy (completed stack pairs) target whole list = speedFor target whole list
+
+-- The other answers are those of a call with the speed as its demand.
+abbrev pub promiseOf : Evaluation Tree → List Entry → List Component → ℕ → Promise
+promiseOf end es cs target =
+    let speed : ℕ = speedBy end target (total cs) (driveList es cs) in
+    record { answer = answerOf end es cs speed; speed = speed }
+
+-- What is answered for a sheet, a target, an allowance and a store of `room` bytes, and the store afterwards.
+unfoldable pub promise : List ℕ → ℕ → ℕ → ℕ → Promise
+promise sheet target allowance room =
+    promiseOf (ending (speedTests sheet target room) sheet allowance) (structure sheet) (components sheet) target
+
+unfoldable pub speedStoreAfter : List ℕ → ℕ → ℕ → List ℕ → List ℕ
+speedStoreAfter sheet target allowance store = storeWith (speedTests sheet target (length store)) sheet allowance store

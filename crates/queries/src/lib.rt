@@ -1,0 +1,80 @@
+// What is asked of a list of records: its shares at a demand, and the speed for a target.
+ghost use mathlib.Core.Path.{_≡_};
+ghost use mathlib.Core.Bool.{cond};
+ghost use Prim.Native.Nat.{_*_, _^_, _≤_, _<_};
+ghost use lib.Dec.{leb};
+ghost use lib.ListN.{length};
+ghost use Rattle.theory.specs.Limits.{recordBytes, thousandths};
+ghost use Rattle.theory.specs.Focal.{weights};
+ghost use Rattle.theory.specs.Speed.{meets, speedFor};
+ghost use Rattle.records.specs.Records.{records};
+ghost use Rattle.queries.specs.Shares.{sharesOf};
+ghost use Rattle.queries.specs.Speed.{Searchable};
+use records::SPEED_LIMIT;
+use theory::THOUSANDTHS;
+
+// Belief and plausibility of a list at a demand, over the sum of its weights.
+pub struct Shares {
+    pub belief: u64,
+    pub plausibility: u64,
+}
+
+// What an interval's weight counts at a demand, by one of its ends.
+fn counted(end: u64, weight: u64, demand: u64) -> u64
+    ensures { λ r. ⌜ r ≡ cond (leb demand end) weight 0 ⌝ }
+{
+    if demand <= end { weight } else { 0 }
+}
+
+// Belief and plausibility of the first n records at a demand.
+pub fn shares_at(s: &[u8], n: usize, demand: u64) -> Shares
+    requires { ⌜ recordBytes * n ≤ length (now s) ⌝ }
+    requires { ⌜ weights (records n (now s)) < 2 ^ 64 ⌝ }
+    ensures { λ r. ⌜ r ≡ sharesOf demand (records n (now (s .entry))) ⌝ }
+{
+    let mut belief: u64 = 0;
+    let mut plausibility: u64 = 0;
+    let mut i = 0;
+    while i < n {
+        let key = records::key_at(s, i);
+        let weight = records::weight_at(s, i);
+        belief += counted(key / SPEED_LIMIT, weight, demand);
+        plausibility += counted(key % SPEED_LIMIT, weight, demand);
+        i += 1;
+    }
+    Shares {
+        belief,
+        plausibility,
+    }
+}
+
+// Whether a share is at least `target` thousandths of the total. Their product does not fit 64 bits; a thousandth of it, rounded up, does.
+fn target_met(share: u64, target: u32, total: u64) -> bool
+    requires { ⌜ target ≤ thousandths ⌝ }
+    ensures { λ r. ⌜ r ≡ meets target total share ⌝ }
+{
+    let t = target as u64;
+    let quotient = t * (total / THOUSANDTHS);
+    let rest = t * (total % THOUSANDTHS);
+    quotient + (rest + (THOUSANDTHS - 1)) / THOUSANDTHS <= share
+}
+
+// The speed for a target, 0 where no low meets it. The lows of the first n records are tried from the fastest down, and the first that
+// meets the target ends the search. Where several records have one low, each adds to its belief.
+pub fn speed_for(s: &[u8], n: usize, target: u32, total: u64) -> u64
+    requires { ⌜ Searchable (now s) n target total ⌝ }
+    ensures { λ r. ⌜ r ≡ speedFor target total (records n (now (s .entry))) ⌝ }
+{
+    let mut belief: u64 = 0;
+    let mut i = n;
+    loop {
+        if i == 0 {
+            break 0;
+        }
+        i -= 1;
+        belief += records::weight_at(s, i);
+        if target_met(belief, target, total) {
+            break records::key_at(s, i) / SPEED_LIMIT;
+        }
+    }
+}

@@ -1,0 +1,130 @@
+-- In a list in order the lows are tried from the fastest down: the first at which the weights passed meet the target is the promised speed.
+-- Assumes nothing.
+use Prim.Native.Nat.{ℕ, zero, suc, _+_, _*_, _≤_, _<_, max}
+use mathlib.Core.Path.{_≡_, refl, sym, ap, _∙_}
+use mathlib.Core.Bool.{Bool, true, false, cond}
+use mathlib.Core.Logic.{_⊎_, inl, inr}
+use mathlib.Core.List.{List, [], _∷_}
+use native.Mathlib.Nat.{le-refl, le-of-eq, le-antisymm}
+use native.Mathlib.Omega.{arith}
+use lib.Dec.{leb}
+use lib.ListN.{length, drop, getD}
+use borrow.Author.Tests.{leb-true, leb-false, le-leb, lt-leb}
+use Rattle.theory.specs.Limits.{thousandths}
+use Rattle.theory.specs.Sums.{greatestBy, Every}
+use Rattle.theory.specs.Focal.{Focal, noFocal, weights}
+use Rattle.theory.specs.Choices.{belief}
+use Rattle.theory.specs.Order.{Before, InOrder}
+use Rattle.theory.specs.Speed.{Meets, meets, Promised, speedFor}
+use Rattle.theory.proofs.Every.{every-map, every-all, index-of-every}
+use Rattle.theory.proofs.Order.{before-low}
+use Rattle.theory.proofs.Collect.{where-le}
+
+-- ---- the greatest of a list
+
+module _ {A : Type 0} (f : A → ℕ) where
+  greatest-most : (m : ℕ) {xs : List A} → Every (λ x. f x ≤ m) xs → greatestBy f xs ≤ m
+  greatest-most m Every.none = omega arith
+  greatest-most m (Every.more h r) = omega (arith, h, greatest-most m r)
+
+  greatest-least : (z : A) (xs : List A) (i : ℕ) → i < length xs → f (getD xs i z) ≤ greatestBy f xs
+  greatest-least z [] i h = absurd (omega arith)
+  greatest-least z (x ∷ xs) zero h = omega arith
+  greatest-least z (x ∷ xs) (suc i) h = omega (arith, greatest-least z xs i (omega arith))
+
+-- ---- belief in a list in order
+
+abbrev pub lowAt : List Focal → ℕ → ℕ
+lowAt l i = (getD l i noFocal) .low
+
+-- All weights count where no low is below the demand.
+belief-all : (d : ℕ) {l : List Focal} → Every (λ f. d ≤ f .low) l → belief d l ≡ weights l
+belief-all d Every.none = refl
+belief-all d (Every.more {x = f} {xs = fs} h r) = rw (le-leb d (f .low) h) (ap (f .weight +_) (belief-all d r))
+
+-- Each interval from place i on counts at the low of interval i,
+belief-from : {l : List Focal} (i : ℕ) → InOrder l → i < length l → weights (drop i l) ≤ belief (lowAt l i) l
+belief-from i InOrder.none h = absurd (omega arith)
+belief-from zero (InOrder.more {f = f} {fs = fs} b r) h =
+    le-of-eq (sym (belief-all (f .low) {l = f ∷ fs} (Every.more (le-refl (f .low)) (every-map (before-low f) b))))
+belief-from (suc i) (InOrder.more {f = f} {fs = fs} b r) h = omega (arith, belief-from i r (omega arith))
+
+-- and above that low none up to place i does.
+belief-above : {l : List Focal} (i d : ℕ) → InOrder l → i < length l → lowAt l i < d → belief d l ≤ weights (drop (suc i) l)
+belief-above i d InOrder.none h k = absurd (omega arith)
+belief-above zero d (InOrder.more {f = f} {fs = fs} b r) h k = rw (lt-leb d (f .low) k) (omega (arith, where-le (λ low high. leb d low) fs))
+belief-above (suc i) d (InOrder.more {f = f} {fs = fs} b r) h k =
+    let p : f .low ≤ lowAt fs i = before-low f (getD fs i noFocal) (index-of-every noFocal b i (omega arith)) in
+    rw (lt-leb d (f .low) (omega arith)) (omega (arith, belief-above i d r (omega arith) k))
+
+-- ---- the search
+
+module _ (target whole : ℕ) where
+  -- What counts of a low that is tried: the low where its belief meets the target.
+  abbrev tried : List Focal → Focal → ℕ
+  tried l f = cond (meets target whole (belief (f .low) l)) (f .low) 0
+
+  -- Where all demands that meet the target are at most m, so is each low that counts.
+  tried-most : (l : List Focal) (m : ℕ) → ((d : ℕ) → Meets target whole (belief d l) → d ≤ m) → (f : Focal) → tried l f ≤ m
+  tried-most l m h f = go (meets target whole (belief (f .low) l)) refl
+    where
+      go : (b : Bool) → meets target whole (belief (f .low) l) ≡ b → cond b (f .low) 0 ≤ m
+      go true e = h (f .low) (leb-true _ _ e)
+      go false e = omega arith
+
+  -- The speed is not above all lows.
+  pub speed-most : (m : ℕ) {l : List Focal} → Every (λ f. f .low ≤ m) l → speedFor target whole l ≤ m
+  speed-most m {l} h = greatest-most (tried l) m (every-map (λ f k. at-most (meets target whole (belief (f .low) l)) k) h)
+    where
+      at-most : (b : Bool) {x : ℕ} → x ≤ m → cond b x 0 ≤ m
+      at-most true k = k
+      at-most false k = omega arith
+
+  -- The weights from place i on meet the target, and those behind it do not.
+  pub record Found (l : List Focal) (i : ℕ) : Type 0 where
+    pub inside : i < length l
+    pub met : Meets target whole (weights (drop i l))
+    pub before : Meets target whole (weights (drop (suc i) l)) → ⊥
+
+  module _ {l : List Focal} (o : InOrder l) {i : ℕ} (found : Found l i) where
+    pub found-promised : Promised target whole (λ d. belief d l) (lowAt l i)
+    found-promised = record {
+      met = omega (arith, found .met, belief-from i o (found .inside));
+      greatest = λ d m. go d m (leb d (lowAt l i)) refl;
+    }
+      where
+        go : (d : ℕ) → Meets target whole (belief d l) → (b : Bool) → leb d (lowAt l i) ≡ b → d ≤ lowAt l i
+        go d m true e = leb-true d (lowAt l i) e
+        go d m false e = absurd (found .before (omega (arith, m, belief-above i d o (found .inside) (leb-false d (lowAt l i) e))))
+
+    -- The low of interval i is the speed.
+    pub found-speed : lowAt l i ≡ speedFor target whole l
+    found-speed =
+        let counts : tried l (getD l i noFocal) ≡ lowAt l i = rw (le-leb _ _ (found-promised .met)) in
+        le-antisymm (omega (arith, counts, greatest-least (tried l) noFocal l i (found .inside)))
+        (greatest-most (tried l) (lowAt l i) (every-all (tried-most l (lowAt l i) (found-promised .greatest)) l))
+
+  -- Where all weights together do not meet the target, there is no speed.
+  pub no-speed : (l : List Focal) → (Meets target whole (weights l) → ⊥) → 0 ≡ speedFor target whole l
+  no-speed l h =
+      let none : (d : ℕ) → Meets target whole (belief d l) → d ≤ 0 = λ d m. absurd (h (omega (arith, m, where-le (λ low high. leb d low) l))) in
+      le-antisymm (omega arith) (greatest-most (tried l) 0 (every-all (tried-most l 0 none) l))
+
+  -- Where all weights together meet a target above 0, some place is found.
+  find : 0 < target * whole → (l : List Focal) → Meets target whole (weights l) → (i : ℕ) × Found l i
+  find p [] h = absurd (omega arith)
+  find p (f ∷ fs) h = go (meets target whole (weights fs)) refl (find p fs)
+    where
+      go : (b : Bool) → meets target whole (weights fs) ≡ b → (Meets target whole (weights fs) → (i : ℕ) × Found fs i) → (i : ℕ) × Found (f ∷ fs) i
+      go true e r =
+          let (i, found) = r (leb-true _ _ e) in
+          (suc i, record { inside = omega (arith, found .inside); met = found .met; before = found .before })
+      go false e r = (0, record { inside = omega arith; met = h; before = λ m. omega (arith, m, leb-false (target * whole) (thousandths * weights fs) e) })
+
+  -- The speed of a list in order is the promised one, and no other number is.
+  pub speed-promised : 0 < target * whole → {l : List Focal} → InOrder l → Meets target whole (weights l)
+      → Promised target whole (λ d. belief d l) (speedFor target whole l)
+  speed-promised p {l} o h = let (i, found) = find p l h in rw (← found-speed o found) (found-promised o found)
+
+  pub promised-one : {beliefAt : ℕ → ℕ} {v w : ℕ} → Promised target whole beliefAt v → Promised target whole beliefAt w → v ≡ w
+  promised-one p q = le-antisymm (q .greatest _ (p .met)) (p .greatest _ (q .met))
