@@ -1,7 +1,7 @@
 //! The borders that a run has to meet: values at a limit and one beyond.
 
-use crate::choices::{Run, MOST};
-use crate::expect::{Question, ANSWER_BYTES, LENGTH_BYTES, LIST_BYTES};
+use crate::choices::{Focal, Run, MOST};
+use crate::expect::{Asked, Question, Reply, LENGTH_BYTES, LIST_BYTES, TOP_TARGET};
 use crate::plan::{Plan, COMPONENTS, INTERVALS, PLAN_BYTES};
 use crate::rules::{self, TOP_SPEED, TOP_TOTAL};
 use crate::sheet;
@@ -33,11 +33,29 @@ borders! {
     DemandAboveHigh: "a demand one above a high",
     DemandZero: "demand 0",
     DemandMost: "demand 2^32 - 1",
+    TargetLeast: "a target of 1",
+    TargetMost: "a target of 1,000",
+    TargetZero: "a target of 0, refused",
+    TargetAboveMost: "a target of 1,001, refused",
+    TargetLowBits: "a target whose low 16 bits would be accepted, refused",
+    TargetBehindSheet: "a wrong target with a wrong sheet: 1 to 11",
+    TargetBehindBuffer: "a wrong target with a short buffer: 12",
+    TargetBefore13: "a wrong target where 13 would follow: 16",
+    TargetBefore14: "a wrong target where 14 would follow: 16",
+    TargetExact: "a target below 1,000 that belief meets exactly",
+    TargetOver: "a target that belief exceeds by less than 1 of a total above 10^16",
+    TargetRounded: "a target that a faster low misses by less than 1 of the total",
+    TargetUnder: "a target that a faster low misses by less than 1 of a total above 10^16",
+    SpeedZero: "a speed of 0",
+    SpeedSum: "a speed above 4,095",
+    SpeedShared: "a speed that is the low of several intervals",
     Sheet256: "a sheet 256 bytes longer than its length byte says, refused",
     List: "a list buffer of 16,384 bytes",
     ListLess: "a list buffer of 16,383 bytes, refused",
     Answer: "an answer buffer of 40 bytes",
     AnswerLess: "an answer buffer of 39 bytes, refused",
+    SpeedAnswer: "an answer buffer of 48 bytes for a speed",
+    SpeedAnswerLess: "an answer buffer of 47 bytes for a speed, refused",
     Length: "a writer's answer buffer of 8 bytes",
     LengthLess: "a writer's answer buffer of 7 bytes, refused",
     Room: "a sheet buffer of the sheet's length",
@@ -92,21 +110,45 @@ impl Borders {
         self.met(Border::Speeds, number == 0 && stopped && fastest);
     }
 
-    /// A call of drive_bounds that has to return this number.
+    /// A call of drive_bounds or drive_speed that has to return this number.
     pub fn of_question(&mut self, question: &Question, number: u32) {
         self.met(Border::List, number == 0 && question.list == LIST_BYTES);
         self.met(Border::ListLess, number == 12 && question.list + 1 == LIST_BYTES);
-        self.met(Border::Answer, number == 0 && question.answer == ANSWER_BYTES);
-        self.met(Border::AnswerLess, number == 12 && question.answer + 1 == ANSWER_BYTES);
-        self.met(Border::DemandZero, number == 0 && question.demand == 0);
-        self.met(Border::DemandMost, number == 0 && question.demand == u32::MAX);
+        let (exact, less) = match question.asked {
+            Asked::Demand(demand) => {
+                self.met(Border::DemandZero, number == 0 && demand == 0);
+                self.met(Border::DemandMost, number == 0 && demand == u32::MAX);
+                (Border::Answer, Border::AnswerLess)
+            }
+            Asked::Target(target) => {
+                self.of_target(target, number);
+                (Border::SpeedAnswer, Border::SpeedAnswerLess)
+            }
+        };
+        let needed = question.asked.answer_bytes();
+        self.met(exact, number == 0 && question.answer == needed);
+        self.met(less, number == 12 && question.answer + 1 == needed);
     }
 
-    pub fn of_run(&mut self, run: &Run, question: &Question, number: u32) {
-        let allowance = u64::from(question.allowance);
+    fn of_target(&mut self, target: u32, number: u32) {
+        let wrong = |target: u32| Asked::Target(target).wrong();
+        self.met(Border::TargetLeast, number == 0 && target == 1);
+        self.met(Border::TargetMost, number == 0 && target == TOP_TARGET);
+        self.met(Border::TargetZero, number == 16 && target == 0);
+        self.met(Border::TargetAboveMost, number == 16 && target == TOP_TARGET + 1);
+        self.met(Border::TargetLowBits, number == 16 && !wrong(target & 65_535));
+        self.met(Border::TargetBehindSheet, wrong(target) && (1..=11).contains(&number));
+        self.met(Border::TargetBehindBuffer, wrong(target) && number == 12);
+    }
+
+    pub fn of_run(&mut self, run: &Run, question: &Question, expected: &Reply) {
+        let (allowance, number) = (u64::from(question.allowance), expected.number);
         let joins = &run.joins;
         self.met(Border::Intervals257, number == 14 && joins[joins.len() - 1].intervals == MOST + 1);
         self.met(Border::AllowanceLess, number == 13 && joins.iter().any(|join| join.pairs == allowance + 1));
+        let late = if number == 16 { run.number(question.allowance) } else { 0 };
+        self.met(Border::TargetBefore13, late == 13);
+        self.met(Border::TargetBefore14, late == 14);
         if number != 0 {
             return;
         }
@@ -115,11 +157,37 @@ impl Borders {
         self.met(Border::Pairs66688, run.pairs() == 66_688);
         self.met(Border::Choices262144, run.choices == INTERVALS.pow(COMPONENTS as u32));
         self.met(Border::Total, run.total == 10u64.pow(18));
-        let (list, demand) = (&run.list, u64::from(question.demand));
+        match question.asked {
+            Asked::Demand(demand) => self.of_demand(&run.list, demand.into()),
+            Asked::Target(target) => {
+                let [.., speed] = expected.answers;
+                self.of_speed(run, target, speed as u32);
+            }
+        }
+    }
+
+    fn of_demand(&mut self, list: &[Focal], demand: u64) {
         self.met(Border::DemandLow, list.iter().any(|focal| u64::from(focal.low) == demand));
         self.met(Border::DemandHigh, list.iter().any(|focal| u64::from(focal.high) == demand));
         self.met(Border::DemandAboveLow, list.iter().any(|focal| u64::from(focal.low) + 1 == demand));
         self.met(Border::DemandAboveHigh, list.iter().any(|focal| u64::from(focal.high) + 1 == demand));
+    }
+
+    fn of_speed(&mut self, run: &Run, target: u32, speed: u32) {
+        let lows = || run.list.iter().map(|focal| focal.low);
+        let over = |low: u32| run.over(run.belief(low), target);
+        let large = run.total > 10u64.pow(16); // 1,000 times the total does not fit 64 bits
+        let met = over(speed);
+        self.met(Border::TargetExact, met == 0 && target < TOP_TARGET);
+        self.met(Border::TargetOver, large && 0 < met && met < 1_000);
+        // Of the faster lows the next misses the target least.
+        if let Some(missed) = lows().find(|low| *low > speed).map(over) {
+            self.met(Border::TargetRounded, missed > -1_000);
+            self.met(Border::TargetUnder, large && missed > -1_000);
+        }
+        self.met(Border::SpeedZero, speed == 0);
+        self.met(Border::SpeedSum, speed > TOP_SPEED.into());
+        self.met(Border::SpeedShared, lows().filter(|low| *low == speed).count() > 1);
     }
 
     /// A call of drive_write_sheet on a plan whose sheet needs `needed` bytes.

@@ -1,12 +1,27 @@
-//! The library's three calls. All that is unsafe stands here.
+//! The library's four calls. All that is unsafe stands here.
 
 use std::ptr;
+
+use crate::expect::Asked;
+
+/// drive_bounds and drive_speed differ in what their first number means.
+type Ask = unsafe extern "C" fn(*const u8, usize, u32, u32, *mut u8, usize, *mut u8, usize) -> u32;
 
 extern "C" {
     fn drive_bounds(
         sheet: *const u8,
         sheet_length: usize,
         demand: u32,
+        allowance: u32,
+        list: *mut u8,
+        list_length: usize,
+        answer: *mut u8,
+        answer_length: usize,
+    ) -> u32;
+    fn drive_speed(
+        sheet: *const u8,
+        sheet_length: usize,
+        target: u32,
         allowance: u32,
         list: *mut u8,
         list_length: usize,
@@ -42,14 +57,19 @@ fn written(bytes: &mut [u8], null: bool) -> *mut u8 {
     }
 }
 
-// Safety of the three: slices that do not overlap, each pointer with its own slice's length.
+// Safety of the four: slices that do not overlap, each pointer with its own slice's length.
 
-pub fn bounds(sheet: &[u8], demand: u32, allowance: u32, list: &mut [u8], answer: &mut [u8], null: bool) -> u32 {
+/// drive_bounds or drive_speed.
+pub fn ask(sheet: &[u8], asked: Asked, allowance: u32, list: &mut [u8], answer: &mut [u8], null: bool) -> u32 {
+    let (call, number): (Ask, u32) = match asked {
+        Asked::Demand(demand) => (drive_bounds, demand),
+        Asked::Target(target) => (drive_speed, target),
+    };
     unsafe {
-        drive_bounds(
+        call(
             read(sheet, null),
             sheet.len(),
-            demand,
+            number,
             allowance,
             written(list, null),
             list.len(),

@@ -1,10 +1,12 @@
-//! What a case puts to a call: a sheet or a plan, a demand, an allowance, the lengths of the buffers.
+//! What a case puts to a call: a sheet or a plan, a demand or a target, an allowance, the lengths of the buffers.
 
 use crate::choices::Run;
 use crate::damage::{self, break_plan, litter, OF_PLAN, RULES_OF_PLAN};
+use crate::expect::{Asked, Question, LIST_BYTES, TOP_TARGET};
 use crate::plan::Plan;
 use crate::random::Random;
 use crate::sheet::pack;
+use crate::tally::SPEED;
 use crate::valid;
 
 /// A sheet: that of the plan, with one rule broken, with several, or spoiled at random.
@@ -71,8 +73,22 @@ pub fn valid_sheet(random: &mut Random) -> Vec<u8> {
     pack(&valid::any(random))
 }
 
+/// A question to drive_bounds or to drive_speed about a sheet with this run, or with none.
+pub fn question(random: &mut Random, call: usize, run: Option<&Run>) -> Question {
+    let asked = match call {
+        SPEED => Asked::Target(target(random, run)),
+        _ => Asked::Demand(demand(random, run)),
+    };
+    Question {
+        asked,
+        allowance: allowance(random, run),
+        list: length(random, LIST_BYTES, 8),
+        answer: length(random, asked.answer_bytes(), 8),
+    }
+}
+
 /// A demand at, above or below the ends of the drive's intervals, at the ends of its own range, or anything.
-pub fn demand(random: &mut Random, run: Option<&Run>) -> u32 {
+fn demand(random: &mut Random, run: Option<&Run>) -> u32 {
     let end = match run.filter(|run| !run.list.is_empty()) {
         Some(run) => {
             let focal = random.pick(&run.list);
@@ -92,8 +108,48 @@ pub fn demand(random: &mut Random, run: Option<&Run>) -> u32 {
     }
 }
 
+/// A target at the belief of some low, rounded down or up, beside it, at the ends of its own range, beyond them, or
+/// anything.
+fn target(random: &mut Random, run: Option<&Run>) -> u32 {
+    let top = TOP_TARGET as usize;
+    let (down, up) = match run.filter(|run| !run.list.is_empty()) {
+        Some(run) => {
+            let nearest = if random.chance(50) { nearest_low(run) } else { None };
+            let low = nearest.unwrap_or(random.pick(&run.list).low);
+            let (belief, total) = (1_000 * u128::from(run.belief(low)), run.total.into());
+            ((belief / total) as u32, belief.div_ceil(total) as u32)
+        }
+        None => (random.between(0, top) as u32, random.between(1, top) as u32),
+    };
+    match random.below(32) {
+        0..=8 => down,
+        9..=17 => up,
+        18 => down.saturating_sub(1),
+        19..=21 => up + 1,
+        22 => 1,
+        23 => TOP_TARGET,
+        24 => 0,
+        25 => TOP_TARGET + 1,
+        26 => u32::MAX,
+        27 => up + (random.between(1, 65_535) << 16) as u32, // its low bits are a target
+        28 => random.next() as u32,
+        _ => random.between(1, top) as u32,
+    }
+}
+
+/// The low whose belief is nearest to a whole number of thousandths of the total, but is not all of it.
+fn nearest_low(run: &Run) -> Option<u32> {
+    let total = u128::from(run.total);
+    let off = |low: &u32| {
+        let over = 1_000 * u128::from(run.belief(*low)) % total;
+        over.min(total - over)
+    };
+    let lows = run.list.iter().map(|focal| focal.low).filter(|low| *low > run.list[0].low);
+    lows.min_by_key(off)
+}
+
 /// An allowance at the pairs of some join, one less, or anything.
-pub fn allowance(random: &mut Random, run: Option<&Run>) -> u32 {
+fn allowance(random: &mut Random, run: Option<&Run>) -> u32 {
     let (all, some) = match run.filter(|run| !run.joins.is_empty()) {
         Some(run) => (run.pairs() as u32, run.joins[random.below(run.joins.len())].pairs as u32),
         None => (0, random.between(0, 100) as u32),

@@ -3,11 +3,14 @@
 //! it.
 
 use crate::plan::{Plan, COMPONENTS, SERIES, SHARED};
+use crate::rules::TOP_SPEED;
 
 /// The most intervals of a join's list.
 pub const MOST: usize = 256;
 /// Beyond this many, the intervals of a join are not counted on.
 const COUNTED: usize = 2 * MOST;
+/// The greatest speed that a drive can have, since shared joins add.
+const TOP_SUM: usize = COMPONENTS * TOP_SPEED as usize;
 
 #[derive(Clone, Copy, Default)]
 pub struct Focal {
@@ -58,6 +61,25 @@ impl Run {
 
     pub fn plausibility(&self, demand: u32) -> u64 {
         self.list.iter().filter(|focal| focal.high >= demand).map(|focal| focal.weight).sum()
+    }
+
+    /// What 1,000 times a belief has over `target` times the total: below 0 where the belief misses the target.
+    pub fn over(&self, belief: u64, target: u32) -> i128 {
+        1_000 * i128::from(belief) - i128::from(target) * i128::from(self.total)
+    }
+
+    /// The greatest demand whose belief meets a target of 1 to 1,000. Every demand is looked at, up to one above the
+    /// speeds that a drive can have; from there on belief is 0.
+    pub fn speed(&self, target: u32) -> u32 {
+        let mut beliefs = vec![0; TOP_SUM + 2]; // by demand
+        for focal in &self.list {
+            beliefs[focal.low as usize] += focal.weight;
+        }
+        for demand in (0..=TOP_SUM).rev() {
+            beliefs[demand] += beliefs[demand + 1];
+        }
+        let met = (0..beliefs.len()).filter(|demand| self.over(beliefs[*demand], target) >= 0);
+        met.max().expect("demand 0 meets every target") as u32
     }
 }
 

@@ -5,11 +5,11 @@ use crate::buffer::Buffer;
 use crate::call;
 use crate::cases;
 use crate::choices;
-use crate::expect::{self, Question, ANSWER_BYTES, LENGTH_BYTES, LIST_BYTES};
+use crate::expect::{self, Asked, Question, Reply, LENGTH_BYTES};
 use crate::plan::{Plan, PLAN_BYTES};
 use crate::random::Random;
 use crate::sheet;
-use crate::tally::{Tally, BOUNDS, CALLS, READ, WRITE};
+use crate::tally::{Tally, BOUNDS, CALLS, READ, SPEED, WRITE};
 
 /// Nothing, or what differs and the bytes that show it.
 type Outcome = Result<(), String>;
@@ -29,10 +29,8 @@ impl Comparison {
         let random = &mut Random::of_case(seed, case);
         self.tally.cases += 1;
         match random.below(100) {
-            0..=59 => {
-                let sheet = cases::sheet_to_run(random);
-                self.bounds(random, &sheet)
-            }
+            0..=39 => self.ask(random, BOUNDS),
+            40..=59 => self.ask(random, SPEED),
             60..=74 => {
                 let plan = cases::plan(random);
                 self.write(random, &plan, 10)
@@ -46,33 +44,30 @@ impl Comparison {
         }
     }
 
-    fn bounds(&mut self, random: &mut Random, sheet: &[u8]) -> Outcome {
+    /// Asks drive_bounds or drive_speed.
+    fn ask(&mut self, random: &mut Random, call: usize) -> Outcome {
+        let sheet = &cases::sheet_to_run(random)[..];
         let run = sheet::read(sheet).map(|plan| choices::run(&plan));
-        let question = Question {
-            demand: cases::demand(random, run.as_ref().ok()),
-            allowance: cases::allowance(random, run.as_ref().ok()),
-            list: cases::length(random, LIST_BYTES, 8),
-            answer: cases::length(random, ANSWER_BYTES, 8),
-        };
-        let expected = expect::bounds(&run, &question);
+        let question = cases::question(random, call, run.as_ref().ok());
+        let expected = expect::reply(&run, &question);
         self.sheet.lay_bytes(random, sheet, sheet.len());
         self.list.lay(random, question.list);
         self.list.expect(expected.list.as_deref());
         self.answer.lay(random, question.answer);
         self.answer.expect(expected.answer.as_deref());
 
-        let (demand, allowance, null) = (question.demand, question.allowance, random.chance(50));
-        let got = call::bounds(self.sheet.lent(), demand, allowance, self.list.lent(), self.answer.lent(), null);
+        let (asked, allowance, null) = (question.asked, question.allowance, random.chance(50));
+        let got = call::ask(self.sheet.lent(), asked, allowance, self.list.lent(), self.answer.lent(), null);
 
-        self.tally.number(BOUNDS, expected.number);
+        self.tally.number(call, expected.number);
         let borders = &mut self.tally.borders;
         borders.met(Border::Null, null && (sheet.is_empty() || question.list == 0 || question.answer == 0));
         borders.of_sheet(sheet, expected.number);
         borders.of_question(&question, expected.number);
         if let Ok(run) = &run {
-            borders.of_run(run, &question, expected.number);
+            borders.of_run(run, &question, &expected);
         }
-        self.compare(BOUNDS, expected.number, got)
+        self.compare(call, expected.number, got)
             .map_err(|what| format!("{what}\n{}", shown(sheet, &question, &expected)))
     }
 
@@ -163,18 +158,25 @@ impl Comparison {
     }
 }
 
-/// A case of drive_bounds: what was put to it, the command that puts it to the program, and the first line that this
-/// has to print where the buffers are long enough.
-fn shown(sheet: &[u8], question: &Question, expected: &expect::Bounds) -> String {
-    let Question { demand, allowance, list, answer } = question;
+/// A case of drive_bounds or drive_speed: what was put to it, the command that puts it to the program, and the first
+/// line that this has to print where the buffers are long enough. The program knows no target: for drive_speed it gets
+/// the speed expected as its demand, and it never answers 16.
+fn shown(sheet: &[u8], question: &Question, expected: &Reply) -> String {
+    let Question { asked, allowance, list, answer } = question;
+    let [total, belief, plausibility, pairs, intervals, speed] = expected.answers;
+    let (words, demand, end) = match asked {
+        Asked::Demand(demand) => (format!("demand {demand}"), *demand, String::new()),
+        Asked::Target(target) => {
+            (format!("target {target}"), speed as u32, format!(" speed {speed}, the demand in the command"))
+        }
+    };
     let input = [&demand.to_be_bytes()[..], &allowance.to_be_bytes(), sheet].concat();
     let escaped: String = input.iter().map(|byte| format!("\\x{byte:02x}")).collect();
-    let [total, belief, plausibility, pairs, intervals] = expected.answers;
     format!(
-        "  demand {demand}, allowance {allowance}, buffers of {} (sheet), {list} (list), {answer} (answer) bytes\n  \
+        "  {words}, allowance {allowance}, buffers of {} (sheet), {list} (list), {answer} (answer) bytes\n  \
          printf '{escaped}' | target/bin/bounds\n  \
          expected: answer {} total {total} belief {belief} plausibility {plausibility} \
-         pairs {pairs} intervals {intervals}",
+         pairs {pairs} intervals {intervals}{end}",
         sheet.len(),
         expected.number
     )

@@ -6,46 +6,81 @@ use crate::plan::{Plan, PLAN_BYTES};
 use crate::sheet;
 
 pub const LIST_BYTES: usize = 16_384;
-pub const ANSWER_BYTES: usize = 40;
 /// The writer's answer: the sheet's length.
 pub const LENGTH_BYTES: usize = 8;
 
-/// What is put to drive_bounds with a sheet: the demand, the allowance, and the lengths of the two buffers.
+/// The greatest target: 1,000 thousandths.
+pub const TOP_TARGET: u32 = 1_000;
+
+/// What is asked about a drive: its shares at a demand (drive_bounds), or the speed for a target (drive_speed).
+#[derive(Clone, Copy)]
+pub enum Asked {
+    Demand(u32),
+    Target(u32),
+}
+
+impl Asked {
+    /// The bytes that the answer buffer needs: drive_speed writes the speed behind what drive_bounds writes.
+    pub fn answer_bytes(&self) -> usize {
+        match self {
+            Asked::Demand(_) => 40,
+            Asked::Target(_) => 48,
+        }
+    }
+
+    /// Whether this is a target that number 16 refuses.
+    pub fn wrong(&self) -> bool {
+        matches!(self, Asked::Target(target) if !(1..=TOP_TARGET).contains(target))
+    }
+}
+
+/// What is put to drive_bounds or drive_speed with a sheet: what is asked, the allowance, and the lengths of the two
+/// buffers.
 pub struct Question {
-    pub demand: u32,
+    pub asked: Asked,
     pub allowance: u32,
     pub list: usize,
     pub answer: usize,
 }
 
-pub struct Bounds {
+pub struct Reply {
     pub number: u32,
-    /// Total, belief, plausibility, pair count, list length.
-    pub answers: [u64; 5],
+    /// Total, belief, plausibility, pair count, list length, and the demand or the speed that the shares belong to.
+    pub answers: [u64; 6],
     pub answer: Option<Vec<u8>>,
     pub list: Option<Vec<u8>>,
 }
 
-/// drive_bounds on a sheet with this run, or with this number.
-pub fn bounds(run: &Result<Run, u32>, question: &Question) -> Bounds {
-    let mut expected = Bounds { number: 0, answers: [0; 5], answer: None, list: None };
+/// drive_bounds or drive_speed on a sheet with this run, or with this number.
+pub fn reply(run: &Result<Run, u32>, question: &Question) -> Reply {
+    let mut expected = Reply { number: 0, answers: [0; 6], answer: None, list: None };
+    let needed = question.asked.answer_bytes();
     match run {
         Err(number) => expected.number = *number,
-        Ok(_) if question.list < LIST_BYTES || question.answer < ANSWER_BYTES => expected.number = 12,
+        Ok(_) if question.list < LIST_BYTES || question.answer < needed => expected.number = 12,
+        Ok(_) if question.asked.wrong() => expected.number = 16,
         Ok(run) => {
             expected.number = run.number(question.allowance);
             expected.list = Some(vec![0; LIST_BYTES]);
             if expected.number == 0 {
-                let (belief, plausibility) = (run.belief(question.demand), run.plausibility(question.demand));
-                expected.answers = [run.total, belief, plausibility, run.pairs(), run.list.len() as u64];
+                expected.answers = answers(run, question.asked);
                 expected.list = Some(records(run));
             }
         }
     }
-    if question.answer >= ANSWER_BYTES {
-        expected.answer = Some(expected.answers.map(u64::to_be_bytes).concat());
+    if question.answer >= needed {
+        expected.answer = Some(expected.answers.map(u64::to_be_bytes).concat()[..needed].to_vec());
     }
     expected
+}
+
+fn answers(run: &Run, asked: Asked) -> [u64; 6] {
+    let demand = match asked {
+        Asked::Demand(demand) => demand,
+        Asked::Target(target) => run.speed(target),
+    };
+    let (belief, plausibility) = (run.belief(demand), run.plausibility(demand));
+    [run.total, belief, plausibility, run.pairs(), run.list.len() as u64, demand.into()]
 }
 
 /// The drive's list in records of 12 bytes, then zero.

@@ -1,4 +1,4 @@
-//! Compares the library's three calls with a second library, written from the requirement alone, on random inputs.
+//! Compares the library's four calls with a second library, written from the requirement alone, on random inputs.
 //!
 //!     differential [CASES] [SEED] [FIRST]
 //!
@@ -32,7 +32,7 @@ use std::thread::{self, ScopedJoinHandle};
 use std::time::{Duration, Instant, SystemTime, UNIX_EPOCH};
 
 use compare::Comparison;
-use tally::{grouped, Tally};
+use tally::{grouped, Tally, LAST};
 
 /// The cases that a thread takes at a time.
 const SHARE: u64 = 500;
@@ -111,7 +111,7 @@ impl Work {
         let (calls, least, seconds) = (grouped(tally.calls()), grouped(tally.least()), time.as_secs_f64());
         println!(
             "ok differential: {cases} cases ({calls} calls, {seconds:.1} s), seed {seed}, \
-             numbers 0 to 15 met at least {least} times"
+             numbers 0 to {LAST} met at least {least} times"
         );
         ExitCode::SUCCESS
     }

@@ -2,14 +2,19 @@
 
 use crate::borders::Borders;
 
-pub const CALLS: [&str; 3] = ["drive_bounds", "drive_write_sheet", "drive_read_sheet"];
+pub const CALLS: [&str; 4] = ["drive_bounds", "drive_speed", "drive_write_sheet", "drive_read_sheet"];
 pub const BOUNDS: usize = 0;
-pub const WRITE: usize = 1;
-pub const READ: usize = 2;
+pub const SPEED: usize = 1;
+pub const WRITE: usize = 2;
+pub const READ: usize = 3;
+
+/// The last number.
+pub const LAST: usize = 16;
 
 /// The numbers that each call can return.
-const POSSIBLE: [&[usize]; 3] = [
+const POSSIBLE: [&[usize]; CALLS.len()] = [
     &[0, 1, 2, 3, 4, 5, 6, 7, 8, 9, 10, 11, 12, 13, 14],
+    &[0, 1, 2, 3, 4, 5, 6, 7, 8, 9, 10, 11, 12, 13, 14, 16],
     &[0, 3, 4, 6, 7, 8, 9, 10, 11, 12, 15],
     &[0, 1, 2, 3, 4, 5, 6, 7, 8, 9, 10, 11, 12],
 ];
@@ -21,7 +26,7 @@ const ASKED_FROM: u64 = 1_000_000;
 #[derive(Default)]
 pub struct Tally {
     pub cases: u64,
-    numbers: [[u64; 16]; 3],
+    numbers: [[u64; LAST + 1]; CALLS.len()],
     pub borders: Borders,
 }
 
@@ -54,13 +59,17 @@ impl Tally {
     }
 
     pub fn table(&self) -> String {
-        let mut text = format!("number {:>20} {:>20} {:>20}\n", CALLS[BOUNDS], CALLS[WRITE], CALLS[READ]);
-        for number in 0..16 {
+        let line = |head: &str, cells: [String; CALLS.len()]| {
+            let cells = cells.map(|cell| format!(" {cell:>20}")).concat();
+            format!("{head:>6}{cells}\n")
+        };
+        let mut text = line("number", CALLS.map(String::from));
+        for number in 0..=LAST {
             let cell = |call: usize| match POSSIBLE[call].contains(&number) {
                 true => grouped(self.numbers[call][number]),
                 false => "-".to_string(),
             };
-            text += &format!("{number:>6} {:>20} {:>20} {:>20}\n", cell(BOUNDS), cell(WRITE), cell(READ));
+            text += &line(&number.to_string(), std::array::from_fn(cell));
         }
         for (words, met) in self.borders.all() {
             text += &format!("{:>12}  {words}\n", grouped(met));

@@ -28,6 +28,7 @@ pub fn to_run(random: &mut Random) -> Plan {
         1_200..=1_259 => up_to(random, 32_768),
         1_260..=1_799 => up_to(random, 2_048),
         1_800..=2_199 => heaviest(up_to(random, 256)),
+        2_200..=2_999 => next_to_thousandths(random),
         _ => up_to(random, 256),
     }
 }
@@ -50,6 +51,62 @@ fn heaviest(mut plan: Plan) -> Plan {
         component.total = TOP_TOTAL;
     }
     plan
+}
+
+/// A drive that reaches some speed with the whole number next to some thousandths of its total, below or above them. The
+/// digits of that number, to the bases of the totals, are the weights of fast speeds. A middle speed of weight 1 leaves
+/// it to the components behind, whose speeds add up to less than a step.
+fn next_to_thousandths(random: &mut Random) -> Plan {
+    let n = random.pick(&[1, 2, 3, 4, 5, 6, 6, 6, 6, 6]);
+    let mut total = || {
+        let least = random.pick(&[2, 900, 900]);
+        random.between(least, TOP_TOTAL.into()) as u16
+    };
+    let totals: Vec<u16> = (0..n).map(|_| total()).collect();
+    // Six components would have too many intervals, were the first not a spare that is fast or leaves it to the others.
+    let six = n == COMPONENTS;
+    let least = if six { 1_000 - 1_000 / usize::from(totals[0]) } else { 1 };
+    let number = next_to(random, least, &totals);
+    let mut step = random.between(1, 8) as u16 * 3u16.pow(n as u32);
+    let mut components = Vec::new();
+    for (total, fast) in totals.iter().zip(digits(number, &totals)) {
+        step /= 3;
+        let middle = if six && components.is_empty() { 0 } else { step };
+        components.push(of_single_speeds(&[(0, total - 1 - fast), (middle, 1), (2 * step, fast)]));
+    }
+    let mut entries = vec![n as u16 - 1];
+    for name in (0..n as u16 - 1).rev() {
+        entries.extend([name, if six && name == 0 { SPARE } else { SHARED }]);
+    }
+    plan(&components, &entries)
+}
+
+/// A whole number next to some thousandths, `least` or more, of the product of the totals.
+fn next_to(random: &mut Random, least: usize, totals: &[u16]) -> u128 {
+    let all: u128 = totals.iter().map(|total| u128::from(*total)).product();
+    let below = random.between(least, 999) as u128 * all / 1_000;
+    random.pick(&[below, below + 1]).min(all - 1)
+}
+
+/// The digits of a number to these bases, the most significant first.
+fn digits(mut number: u128, bases: &[u16]) -> Vec<u16> {
+    let mut digits = vec![0; bases.len()];
+    for (digit, base) in digits.iter_mut().zip(bases).rev() {
+        *digit = (number % u128::from(*base)) as u16;
+        number /= u128::from(*base);
+    }
+    digits
+}
+
+/// A component of single speeds with their weights; a speed of weight 0 is left out.
+fn of_single_speeds(speeds: &[(u16, u16)]) -> Component {
+    let mut component = Component::default();
+    for (speed, weight) in speeds.iter().filter(|(_, weight)| *weight > 0) {
+        component.intervals[usize::from(component.count)] = Interval { low: *speed, high: *speed, weight: *weight };
+        component.count += 1;
+        component.total += weight;
+    }
+    component
 }
 
 /// Six components of eight intervals: 224 bytes, 262,144 choices.
