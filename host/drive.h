@@ -6,7 +6,8 @@
  *   belief         the share of time at or above the demand that the logs vouch for;
  *   plausibility   the share that nothing in the logs rules out.
  * Both are exact. Wherever inside the logged intervals the modules ran, the true share lies between the two, as long as the modules
- * are independent of each other (see "From logs to a plan").
+ * are independent of each other (see "From logs to a plan"). Another call starts from a share of the time and answers the greatest
+ * speed that the logs vouch for during it (drive_speed).
  *
  * Link libdrive.a or libdrive.so (x86-64 Linux, System V calling convention):
  *   cc -Ihost program.c target/staticlib/libdrive.a     (in the repository, after rt staticlib drive)
@@ -37,7 +38,8 @@
  *         printf("%u.%02u %% to %u.%02u %%\n", belief / 100, belief % 100, plausibility / 100, plausibility % 100);
  *     }
  *
- * It prints 78.40 % to 98.00 %. host/example.c has a whole chair, host/example_table.c a table of demands from one call.
+ * It prints 78.40 % to 98.00 %. host/example.c has a whole chair, host/example_table.c a table of demands from one call,
+ * host/example_speed.c the speeds that a catalogue can print.
  *
  * Words
  *   module     a part of the drive, numbered from 0 in the order of the plan.
@@ -61,8 +63,8 @@
  * From logs to a plan
  *   Widening     An interval that is replaced by one that encloses it, and weight that is moved to an enclosing interval, can only
  *                lower belief and raise plausibility: the bounds get wider and stay true. The other way round they may become false.
- *   Rounding     Numbers are whole. Round lows down, highs up and a demand up. C cuts fractions off, and a 64-bit demand to 32 bits,
- *                without a word unless -Wconversion is on.
+ *   Rounding     Numbers are whole. Round lows down, highs, demands and targets up, and an answered speed down where it is printed
+ *                in other units. C cuts fractions off, and a 64-bit demand to 32 bits, without a word unless -Wconversion is on.
  *   Long logs    A log of more than 1,000 units is scaled, and the weights still have to add to T. Round the scaled weight of each
  *                interval down, leave out those that become 0, and give all lost units to one interval that encloses every interval
  *                of the log, at worst 0 to 4,095. It is one of the eight; where the log has it already, add to its weight. Never
@@ -85,9 +87,9 @@ extern "C" {
 
 /* The version of this header and of the library that it came with. The soname has the first number. */
 #define DRIVE_VERSION_MAJOR 1
-#define DRIVE_VERSION_MINOR 0
+#define DRIVE_VERSION_MINOR 1
 #define DRIVE_VERSION_PATCH 0
-#define DRIVE_VERSION "1.0.0"
+#define DRIVE_VERSION "1.1.0"
 
 /* The limits of a plan of edition one, and the codes of its joins. Edition two will have others. */
 #define DRIVE_MODULES_MAX 6
@@ -99,18 +101,20 @@ extern "C" {
 #define DRIVE_ED1_SHARED 9
 #define DRIVE_ED1_SPARE 10
 
-/* The limits of a run. */
+/* The limits of a run, and of what is asked. */
 #define DRIVE_LIST_INTERVALS_MAX 256 /* of a join's list */
 #define DRIVE_PAIRS_MAX 66688        /* no sheet forms more: two groups of three modules, 2 * (64 + 512) + 256 * 256 */
+#define DRIVE_TARGET_MAX 1000        /* thousandths: all of the time */
 
 /* What buffers need. */
-#define DRIVE_PLAN_BYTES 336      /* a plan */
-#define DRIVE_SHEET_BYTES_MAX 224 /* the longest sheet */
-#define DRIVE_LENGTH_BYTES 8      /* the answer of drive_write_sheet */
-#define DRIVE_LIST_BYTES 16384    /* the list buffer of drive_bounds */
-#define DRIVE_ANSWER_BYTES 40     /* the answer of drive_bounds */
-#define DRIVE_RECORD_BYTES 12     /* one record of the list */
-#define DRIVE_STACK_BYTES 16384   /* more stack than any call takes, the first one included */
+#define DRIVE_PLAN_BYTES 336        /* a plan */
+#define DRIVE_SHEET_BYTES_MAX 224   /* the longest sheet */
+#define DRIVE_LENGTH_BYTES 8        /* the answer of drive_write_sheet */
+#define DRIVE_LIST_BYTES 16384      /* the list buffer of drive_bounds and drive_speed */
+#define DRIVE_ANSWER_BYTES 40       /* the answer of drive_bounds */
+#define DRIVE_SPEED_ANSWER_BYTES 48 /* the answer of drive_speed */
+#define DRIVE_RECORD_BYTES 12       /* one record of the list */
+#define DRIVE_STACK_BYTES 16384     /* more stack than any call takes, the first one included */
 
 /* An interval with its weight: of a module's log, or of the drive's list. */
 struct drive_interval {
@@ -244,13 +248,13 @@ static inline uint32_t drive_plan_read_entry(const uint8_t *plan, uint64_t i) {
     return drive_plan_get(plan, DRIVE_AT_ENTRY + i);
 }
 
-/* The three calls. Each returns its number: 0, or that of the refusal ("Numbers", below).
+/* The four calls. Each returns its number: 0, or that of the refusal ("Numbers", below).
  *
  * What the caller sees to:
  *   - Each pointer has that many bytes behind it. A pointer may be NULL where its length is 0. No alignment is asked for.
  *   - No buffer overlaps another, and nothing else writes to them during the call.
- *   - DRIVE_STACK_BYTES bytes of stack are left. Measured: up to 10,008 for drive_bounds and 2,328 for the others; up to 3,168 more
- *     for the first call under lazy binding, where functions of the C library are looked up at their first use.
+ *   - DRIVE_STACK_BYTES bytes of stack are left. Measured: up to 10,008 for drive_bounds and drive_speed, and 2,328 for the others;
+ *     up to 3,168 more for the first call under lazy binding, where functions of the C library are looked up at their first use.
  * No other input, whatever its bytes, can make a call fail, run on or touch other memory.
  *
  * A call takes no memory from the heap, holds no lock and keeps nothing for the next one. Calls are independent and may run in
@@ -313,6 +317,25 @@ uint32_t drive_read_sheet(const uint8_t *sheet, size_t sheet_length, uint8_t *pl
 uint32_t drive_bounds(const uint8_t *sheet, size_t sheet_length, uint32_t demand, uint32_t allowance, uint8_t *list,
                       size_t list_length, uint8_t *answer, size_t answer_length);
 
+/* Answers the speed that can be promised for a share of the time: the greatest demand, of all whole numbers, whose belief is at
+ * least that share of the total. The parameters are those of drive_bounds but for two:
+ *   target                  in the demand's place: the share in thousandths, 1 to 1,000. 950 is 95.0 % (95 is 9.5 %); what the logs
+ *                           vouch for is then "at least 95 % of the time at SPEED or faster"
+ *   answer, answer_length   the answer buffer: drive_read_speed_answer
+ *
+ *   number        answer, first 48 bytes                     list, first 16,384 bytes
+ *   0             the answers of drive_bounds with the       the drive's list, as drive_bounds leaves it
+ *                 speed as its demand; then the speed
+ *   13, 14        zero                                       zero
+ *   1 to 12, 16   zero                                       unchanged
+ *   The speed has 8 bytes, too. What drive_bounds says of the order of the numbers and of a short answer buffer holds here with 48
+ *   bytes in place of 40; 16, for a target that is not 1 to 1,000, comes after 12 and before 13.
+ *
+ * The comparison is exact: 1000 * belief is at least target * total. drive_bounds with the speed as its demand gives the same
+ * answers; one mm/s faster, its belief is below the target. A speed of 0 says that at that share the logs vouch for none above 0. */
+uint32_t drive_speed(const uint8_t *sheet, size_t sheet_length, uint32_t target, uint32_t allowance, uint8_t *list,
+                     size_t list_length, uint8_t *answer, size_t answer_length);
+
 /* Numbers. Each of 1 to 11 looks at the whole sheet or plan before the next; the writer does not test 1, 2 and 5. */
 #define DRIVE_NUMBERS(X) \
     X(0, DRIVE_ACCEPTED, "accepted") \
@@ -329,10 +352,11 @@ uint32_t drive_bounds(const uint8_t *sheet, size_t sheet_length, uint32_t demand
     X(9, DRIVE_E_ENTRY, "an entry is missing, is 6, 7 or above 10, or names a module not below n") \
     X(10, DRIVE_E_NAMED, "a module is named twice or never") \
     X(11, DRIVE_E_JOIN, "a join finds fewer than two lists") \
-    X(12, DRIVE_E_BUFFER, "a buffer is too short: plan 336 bytes, writer's answer 8, list 16,384, answer 40") \
+    X(12, DRIVE_E_BUFFER, "a buffer is too short: plan 336 bytes, writer's answer 8, list 16,384, answer 40, with a speed 48") \
     X(13, DRIVE_E_ALLOWANCE, "the pairs formed so far and those of this join exceed the allowance") \
     X(14, DRIVE_E_LIST, "a join's list has more than 256 different intervals") \
-    X(15, DRIVE_E_SHEET_BUFFER, "the writer's sheet buffer is shorter than the sheet")
+    X(15, DRIVE_E_SHEET_BUFFER, "the writer's sheet buffer is shorter than the sheet") \
+    X(16, DRIVE_E_TARGET, "the target is not 1 to 1,000 thousandths")
 
 #define DRIVE_CONSTANT(number, name, words) name = number,
 enum drive_number { DRIVE_NUMBERS(DRIVE_CONSTANT) DRIVE_NUMBER_COUNT };
@@ -361,6 +385,19 @@ static inline struct drive_answer drive_read_answer(const uint8_t *answer) {
     a.plausibility = drive_read(answer + 16, 8);
     a.pairs = drive_read(answer + 24, 8);
     a.intervals = drive_read(answer + 32, 8);
+    return a;
+}
+
+/* The answer buffer of drive_speed as values: what drive_bounds answers at the speed, and the speed. */
+struct drive_speed_answer {
+    struct drive_answer bounds;
+    uint32_t speed;
+};
+
+static inline struct drive_speed_answer drive_read_speed_answer(const uint8_t *answer) {
+    struct drive_speed_answer a;
+    a.bounds = drive_read_answer(answer);
+    a.speed = (uint32_t)drive_read(answer + DRIVE_ANSWER_BYTES, 8);
     return a;
 }
 

@@ -1,4 +1,4 @@
-/* The three calls on every number, with buffers too short, exact and too long, and on the bench table. C and C++. */
+/* The four calls on every number, with buffers too short, exact and too long, and on the bench table. C and C++. */
 #include "common.h"
 
 /* Six modules with eight intervals and T 1,000 each, at the greatest speeds; all shared. */
@@ -106,7 +106,6 @@ static void add_rows(struct rows *rows) {
 }
 
 static const size_t list_lengths[] = {0, 1, DRIVE_LIST_BYTES - 1, DRIVE_LIST_BYTES, DRIVE_LIST_BYTES + 1, DRIVE_LIST_BYTES + 5000};
-static const size_t answer_lengths[] = {0, 1, DRIVE_ANSWER_BYTES - 1, DRIVE_ANSWER_BYTES, DRIVE_ANSWER_BYTES + 1, 100};
 static const size_t plan_lengths[] = {0, 1, DRIVE_PLAN_BYTES - 1, DRIVE_PLAN_BYTES, DRIVE_PLAN_BYTES + 1, 400};
 static const size_t length_lengths[] = {0, 1, DRIVE_LENGTH_BYTES - 1, DRIVE_LENGTH_BYTES, DRIVE_LENGTH_BYTES + 1, 100};
 enum { LENGTHS = 6, LIST_ROOM = DRIVE_LIST_BYTES + 8192, ROOM = 4096 };
@@ -128,24 +127,54 @@ static int answer_is(const uint8_t *answer, const uint64_t *want) {
     return a.total == want[0] && a.belief == want[1] && a.plausibility == want[2] && a.pairs == want[3] && a.intervals == want[4];
 }
 
-/* One call of drive_bounds with these lengths. */
-static void try_bounds(const struct row *r, size_t list_length, size_t answer_length, int at_end, struct fence sheet_pages,
-                       struct fence list_pages, struct fence answer_pages) {
+/* drive_bounds at a demand or drive_speed at a target: the number where that is refused, the bytes of the answer, and the answers to
+ * case P2. */
+struct ask {
+    bounds_fn *call;
+    uint32_t asked, refused;
+    size_t bytes;
+    uint64_t answers[6];
+};
+
+static const struct ask ask_bounds = {drive_bounds, 3, 0, DRIVE_ANSWER_BYTES, {12, 9, 10, 4, 4, 0}};
+
+/* Good targets and others; 1024 + 750 and 65536 + 750 would be good if they were cut to 10 or to 16 bits. */
+enum { TARGETS = 9 };
+static const struct ask ask_speed[TARGETS] = {
+    {drive_speed, 1, 0, DRIVE_SPEED_ANSWER_BYTES, {12, 9, 10, 4, 4, 3}},
+    {drive_speed, 750, 0, DRIVE_SPEED_ANSWER_BYTES, {12, 9, 10, 4, 4, 3}},
+    {drive_speed, 751, 0, DRIVE_SPEED_ANSWER_BYTES, {12, 12, 12, 4, 4, 1}},
+    {drive_speed, DRIVE_TARGET_MAX, 0, DRIVE_SPEED_ANSWER_BYTES, {12, 12, 12, 4, 4, 1}},
+    {drive_speed, 0, 16, DRIVE_SPEED_ANSWER_BYTES, {0}},
+    {drive_speed, DRIVE_TARGET_MAX + 1, 16, DRIVE_SPEED_ANSWER_BYTES, {0}},
+    {drive_speed, 1024 + 750, 16, DRIVE_SPEED_ANSWER_BYTES, {0}},
+    {drive_speed, 65536 + 750, 16, DRIVE_SPEED_ANSWER_BYTES, {0}},
+    {drive_speed, UINT32_MAX, 16, DRIVE_SPEED_ANSWER_BYTES, {0}},
+};
+
+static int answers_are(const uint8_t *answer, const struct ask *a) {
+    if (a->bytes > DRIVE_ANSWER_BYTES && drive_read(answer + DRIVE_ANSWER_BYTES, 8) != a->answers[5]) return 0;
+    return answer_is(answer, a->answers);
+}
+
+/* One call of drive_bounds or drive_speed with these lengths. */
+static void try_ask(const struct ask *a, const struct row *r, size_t list_length, size_t answer_length, int at_end,
+                    struct fence sheet_pages, struct fence list_pages, struct fence answer_pages) {
     struct lent sheet = lend_bytes(sheet_pages, r->sheet.bytes, r->sheet.length, r->sheet.length, at_end);
     struct lent list = lend(list_pages, list_length, at_end), answer = lend(answer_pages, answer_length, at_end);
-    int fits = list_length >= DRIVE_LIST_BYTES && answer_length >= DRIVE_ANSWER_BYTES;
-    uint32_t want = r->number >= 1 && r->number <= 11 ? r->number : fits ? r->number : 12;
+    int fits = list_length >= DRIVE_LIST_BYTES && answer_length >= a->bytes;
+    uint32_t want = r->number >= 1 && r->number <= 11 ? r->number : !fits ? 12 : a->refused != 0 ? a->refused : r->number;
     size_t list_from = 0, answer_from = 0;
 
     only_read(sheet_pages, 1);
-    uint32_t got = drive_bounds(pointer(sheet), sheet.length, 3, r->allowance, pointer(list), list_length, pointer(answer),
-                                answer_length);
+    uint32_t got = a->call(pointer(sheet), sheet.length, a->asked, r->allowance, pointer(list), list_length, pointer(answer),
+                           answer_length);
     only_read(sheet_pages, 0);
 
-    EXPECT(got == want, "number %u, not %u, with list %zu, answer %zu", got, want, list_length, answer_length);
-    if (answer_length >= DRIVE_ANSWER_BYTES) {
-        answer_from = DRIVE_ANSWER_BYTES;
-        EXPECT(want == 0 ? answer_is(answer.bytes, p2_answer) : holds_zeros(answer.bytes, 0, answer_from), "answer of number %u", want);
+    EXPECT(got == want, "number %u, not %u, asked %u, with list %zu, answer %zu", got, want, a->asked, list_length, answer_length);
+    if (answer_length >= a->bytes) {
+        answer_from = a->bytes;
+        EXPECT(want == 0 ? answers_are(answer.bytes, a) : holds_zeros(answer.bytes, 0, answer_from), "answer of number %u", want);
     }
     if (want == 0 || want == 13 || want == 14) {
         list_from = DRIVE_LIST_BYTES;
@@ -176,16 +205,25 @@ static void try_read(const struct row *r, size_t plan_length, int at_end, struct
     EXPECT(holds_marks(plan.bytes, from, plan.filled), "reader: number %u touched the plan buffer", want);
 }
 
+/* Every row with buffers of every length; 40 bytes are enough for drive_bounds and too few for drive_speed. */
+static void try_rows(const struct ask *a, const struct rows *rows, struct fence sheet, struct fence list, struct fence answer) {
+    enum { ANSWER_LENGTHS = 7 };
+    const size_t answer_lengths[ANSWER_LENGTHS] = {0, 1, a->bytes - 1, a->bytes, a->bytes + 1, DRIVE_ANSWER_BYTES, 100};
+    for (unsigned r = 0; r < rows->count; r++)
+        for (unsigned i = 0; i < LENGTHS; i++)
+            for (unsigned j = 0; j < ANSWER_LENGTHS; j++)
+                for (int at_end = 0; at_end < 2; at_end++)
+                    try_ask(a, &rows->row[r], list_lengths[i], answer_lengths[j], at_end, sheet, list, answer);
+}
+
 static void test_sheets(void) {
     static struct rows rows;
     struct fence sheet = make_fence(SHEET_ROOM), list = make_fence(LIST_ROOM), answer = make_fence(ROOM), plan = make_fence(ROOM);
     add_rows(&rows);
-    for (unsigned r = 0; r < rows.count; r++)
-        for (unsigned i = 0; i < LENGTHS; i++)
-            for (unsigned j = 0; j < LENGTHS; j++)
-                for (int at_end = 0; at_end < 2; at_end++)
-                    try_bounds(&rows.row[r], list_lengths[i], answer_lengths[j], at_end, sheet, list, answer);
+    try_rows(&ask_bounds, &rows, sheet, list, answer);
     finish("drive_bounds: numbers 0 to 14, buffers of every length, nothing else touched");
+    for (unsigned i = 0; i < TARGETS; i++) try_rows(&ask_speed[i], &rows, sheet, list, answer);
+    finish("drive_speed: numbers 0 to 14 and 16, buffers of every length, nothing else touched");
     for (unsigned r = 0; r < rows.count; r++)
         for (unsigned i = 0; i < LENGTHS; i++)
             for (int at_end = 0; at_end < 2; at_end++) try_read(&rows.row[r], plan_lengths[i], at_end, sheet, plan);
@@ -380,6 +418,77 @@ static void test_bench_table(void) {
     finish("the bench table");
 }
 
+/* drive_speed at a target against drive_bounds at the speed, which has the same answers and the same list, and at one above it, which
+ * has a belief below the target. Answers the speed. */
+static uint64_t speed_at(const struct sheet *s, uint32_t target) {
+    static uint8_t list[DRIVE_LIST_BYTES], answer[DRIVE_SPEED_ANSWER_BYTES];
+    static uint8_t bounds_list[DRIVE_LIST_BYTES], bounds_answer[DRIVE_ANSWER_BYTES];
+    memset(list, 0xEE, sizeof list);
+    memset(answer, 0xEE, sizeof answer);
+    uint32_t got = drive_speed(s->bytes, s->length, target, DRIVE_PAIRS_MAX, list, sizeof list, answer, sizeof answer);
+    uint64_t speed = drive_read(answer + DRIVE_ANSWER_BYTES, 8);
+    EXPECT(got == 0 && speed < UINT32_MAX, "target %u: number %u, speed %llu", target, got, (unsigned long long)speed);
+
+    got = drive_bounds(s->bytes, s->length, (uint32_t)speed, DRIVE_PAIRS_MAX, bounds_list, sizeof bounds_list, bounds_answer,
+                       sizeof bounds_answer);
+    EXPECT(got == 0 && memcmp(answer, bounds_answer, sizeof bounds_answer) == 0, "target %u: other answers at the speed", target);
+    EXPECT(memcmp(list, bounds_list, sizeof list) == 0, "target %u: another list", target);
+    EXPECT(meets(drive_read_answer(bounds_answer), target), "target %u: the belief is below it", target);
+
+    got = drive_bounds(s->bytes, s->length, (uint32_t)speed + 1, DRIVE_PAIRS_MAX, bounds_list, sizeof bounds_list, bounds_answer,
+                       sizeof bounds_answer);
+    EXPECT(got == 0 && !meets(drive_read_answer(bounds_answer), target), "target %u: a greater speed meets it", target);
+    return speed;
+}
+
+static void speed_row(const char *name, struct plan p, uint32_t target, uint64_t want) {
+    struct sheet s = make_sheet(&p);
+    uint64_t got = speed_at(&s, target);
+    EXPECT(got == want, "%s: speed %llu at target %u, not %llu", name, (unsigned long long)got, target, (unsigned long long)want);
+}
+
+/* Six modules with T 1,000. Each runs at 1500 or more, but at 900 or more for `first` (module 0) or for `others` (each other one). The
+ * others are joined by `join`, and module 0 with them by `last`. */
+static struct plan six(unsigned first, unsigned others, unsigned join, unsigned last) {
+    const uint16_t j = (uint16_t)join, entry[DRIVE_ENTRIES_MAX] = {0, 1, 2, 3, 4, 5, j, j, j, j, (uint16_t)last};
+    const struct component fast = {1000, 1, {{1500, 2000, 1000}}};
+    struct component c[DRIVE_MODULES_MAX];
+    for (unsigned i = 0; i < DRIVE_MODULES_MAX; i++) {
+        unsigned slow = i == 0 ? first : others;
+        const struct component both = {1000, 2, {{900, 1100, slow}, {1500, 2000, 1000 - slow}}};
+        c[i] = slow > 0 ? both : fast;
+    }
+    return make_plan(DRIVE_MODULES_MAX, c, entry);
+}
+
+static void test_speeds(void) {
+    const struct plan w = two(W0, W1, DRIVE_ED1_SERIES), shared = two(A, B, DRIVE_ED1_SHARED);
+    const struct plan swept[] = {w, shared, three(4), two_groups(1, DRIVE_ED1_SERIES), longest()};
+    const uint32_t w_targets[] = {1, 42, 43, 264, 265, DRIVE_TARGET_MAX};
+    const uint64_t w_speeds[] = {7, 7, 3, 3, 0, 0};
+    for (unsigned i = 0; i < 6; i++) speed_row("W", w, w_targets[i], w_speeds[i]);
+    speed_row("P2", shared, 750, 3);
+    speed_row("P2", shared, 751, 1);
+    finish("drive_speed: the speeds of W and of case P2");
+
+    speed_row("all of 10^18 but 1", six(1, 1, DRIVE_ED1_SPARE, DRIVE_ED1_SPARE), 999, 1500);
+    speed_row("all of 10^18 but 1", six(1, 1, DRIVE_ED1_SPARE, DRIVE_ED1_SPARE), 1000, 900);
+    speed_row("950 * 10^15", six(50, 0, DRIVE_ED1_SERIES, DRIVE_ED1_SERIES), 950, 1500);
+    speed_row("950 * 10^15", six(50, 0, DRIVE_ED1_SERIES, DRIVE_ED1_SERIES), 951, 900);
+    speed_row("950 * 10^15 but 950", six(50, 1, DRIVE_ED1_SPARE, DRIVE_ED1_SERIES), 949, 1500);
+    speed_row("950 * 10^15 but 950", six(50, 1, DRIVE_ED1_SPARE, DRIVE_ED1_SERIES), 950, 900);
+    speed_row("1 of 10^18", six(999, 999, DRIVE_ED1_SERIES, DRIVE_ED1_SERIES), 1, 900);
+    finish("drive_speed: beliefs of a total of 10^18 that meet the target exactly, and that miss it by little");
+
+    for (size_t i = 0; i < sizeof swept / sizeof *swept; i++) {
+        struct sheet s = make_sheet(&swept[i]);
+        for (uint32_t target = 1; target <= DRIVE_TARGET_MAX; target++) speed_at(&s, target);
+    }
+    speed_row("the most pairs", widest(), 1, 239);
+    speed_row("the most pairs", widest(), DRIVE_TARGET_MAX, 0);
+    finish("drive_speed: every target against drive_bounds");
+}
+
 /* The most that a sheet can ask for: the longest sheet, the largest total, the largest demand, the most pairs. */
 static void test_ends(void) {
     static uint8_t list[DRIVE_LIST_BYTES], answer[DRIVE_ANSWER_BYTES];
@@ -410,10 +519,11 @@ static void test_ends(void) {
 }
 
 static void test_messages(void) {
-    EXPECT(DRIVE_NUMBER_COUNT == 16 && DRIVE_E_SHEET_BUFFER == 15, "the numbers are 0 to 15");
+    EXPECT(DRIVE_NUMBER_COUNT == 17 && DRIVE_E_TARGET == 16, "the numbers are 0 to 16");
     EXPECT(strcmp(drive_message(DRIVE_ACCEPTED), "accepted") == 0, "the words for 0");
     EXPECT(strcmp(drive_message(DRIVE_E_EDITION), "the sheet's edition is not 1") == 0, "the words for 2");
-    EXPECT(strcmp(drive_message(16), "no such number") == 0 && strcmp(drive_message(UINT32_MAX), "no such number") == 0, "others");
+    EXPECT(strcmp(drive_message(DRIVE_E_TARGET), "the target is not 1 to 1,000 thousandths") == 0, "the words for 16");
+    EXPECT(strcmp(drive_message(17), "no such number") == 0 && strcmp(drive_message(UINT32_MAX), "no such number") == 0, "others");
     finish("the words for each number");
 }
 
@@ -422,6 +532,7 @@ int main(void) {
     test_writer();
     test_round_trips();
     test_bench_table();
+    test_speeds();
     test_ends();
     test_messages();
     return failures != 0;

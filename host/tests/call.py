@@ -1,4 +1,5 @@
-"""The calls from Python: drive_bounds against the sum over all choices of one interval per component, and every sheet read and written.
+"""The calls from Python: drive_bounds and drive_speed against the sum over all choices of one interval per component, and every sheet
+read and written.
 
 call.py LIBRARY: the archive as a shared library.
 """
@@ -9,15 +10,17 @@ import sys
 from collections import Counter
 from math import prod
 
-LIST_BYTES, ANSWER_BYTES, PAIRS_MAX, PLAN_BYTES, LENGTH_BYTES, SHEET_BYTES = 16384, 40, 66688, 336, 8, 224
+LIST_BYTES, ANSWER_BYTES, SPEED_BYTES, PAIRS_MAX = 16384, 40, 48, 66688
+PLAN_BYTES, LENGTH_BYTES, SHEET_BYTES = 336, 8, 224
 SERIES, SHARED, SPARE = 8, 9, 10
 JOIN = {SERIES: min, SHARED: lambda x, y: x + y, SPARE: max}
 
 library = ctypes.CDLL(sys.argv[1])
-drive_bounds, write_sheet, read_sheet_call = library.drive_bounds, library.drive_write_sheet, library.drive_read_sheet
-for function in drive_bounds, write_sheet, read_sheet_call:
+drive_bounds, drive_speed = library.drive_bounds, library.drive_speed
+write_sheet, read_sheet_call = library.drive_write_sheet, library.drive_read_sheet
+for function in drive_bounds, drive_speed, write_sheet, read_sheet_call:
     function.restype = ctypes.c_uint32
-drive_bounds.argtypes = [
+drive_bounds.argtypes = drive_speed.argtypes = [
     ctypes.c_char_p, ctypes.c_size_t, ctypes.c_uint32, ctypes.c_uint32,
     ctypes.c_char_p, ctypes.c_size_t, ctypes.c_char_p, ctypes.c_size_t,
 ]
@@ -25,17 +28,17 @@ write_sheet.argtypes = 3 * [ctypes.c_char_p, ctypes.c_size_t]
 read_sheet_call.argtypes = 2 * [ctypes.c_char_p, ctypes.c_size_t]
 
 
-def call(sheet, demand, allowance, list_length=LIST_BYTES, answer_length=ANSWER_BYTES):
-    """The number, the five answers and the list; the buffers are 16 bytes longer than the call is told."""
-    buffers = [ctypes.create_string_buffer(b"\xee" * (n + 16), n + 16) for n in (list_length, answer_length)]
-    number = drive_bounds(sheet, len(sheet), demand, allowance, buffers[0], list_length, buffers[1], answer_length)
+def lent(length):
+    return ctypes.create_string_buffer(b"\xee" * (length + 16), length + 16)
+
+
+def call(function, sheet, asked, allowance, list_length, answer_length):
+    """The number, the list and the answers; the buffers are 16 bytes longer than the call is told."""
+    buffers = lent(list_length), lent(answer_length)
+    number = function(sheet, len(sheet), asked, allowance, buffers[0], list_length, buffers[1], answer_length)
     store, answer = (b.raw for b in buffers)
     assert store[list_length:] == answer[answer_length:] == b"\xee" * 16, "bytes behind a buffer"
     return number, store[:list_length], answer[:answer_length]
-
-
-def lent(length):
-    return ctypes.create_string_buffer(b"\xee" * (length + 16), length + 16)
 
 
 def write(plan, sheet_length=SHEET_BYTES, answer_length=LENGTH_BYTES):
@@ -150,33 +153,57 @@ def late_refusal(components, entries, allowance):
     return 0, pairs
 
 
-def expected(sheet, demand, allowance):
-    """The number, the five answers and the list, from the sum over all choices."""
+def outcomes_of(sheet, allowance):
+    """The number, and, where that is 0, total, pair count and the list, from the sum over all choices."""
     number, plan = read_sheet(sheet)
     if number == 0:
         components, entries = plan
         number, pairs = late_refusal(components, entries, allowance)
     if number != 0:
-        return number, [0] * 5, []
+        return number, 0, 0, []
     outcomes = Counter()
     for choice in itertools.product(*(focal for _, focal in components)):
         lows, highs, weights = zip(*choice)
         outcomes[joined(entries, lows), joined(entries, highs)] += prod(weights)
-    total = prod(total for total, _ in components)
-    belief = sum(weight for (low, _), weight in outcomes.items() if low >= demand)
-    plausibility = sum(weight for (_, high), weight in outcomes.items() if high >= demand)
     records = sorted((low, high, weight) for (low, high), weight in outcomes.items())
-    return 0, [total, belief, plausibility, pairs, len(records)], records
+    return 0, prod(total for total, _ in components), pairs, records
 
 
-def compare(sheet, demand, allowance):
-    number, answers, records = expected(sheet, demand, allowance)
-    store = b"".join(low.to_bytes(2, "big") + high.to_bytes(2, "big") + weight.to_bytes(8, "big") for low, high, weight in records)
-    store = store.ljust(LIST_BYTES, b"\0") if number in (0, 13, 14) else b"\xee" * LIST_BYTES
+def bounds_of(outcomes, demand):
+    """The number and the five answers at a demand."""
+    number, total, pairs, records = outcomes
+    belief = sum(weight for low, _, weight in records if low >= demand)
+    plausibility = sum(weight for _, high, weight in records if high >= demand)
+    return number, [total, belief, plausibility, pairs, len(records)]
+
+
+def speed_of(outcomes, target):
+    """The number and the six answers at a target: every demand is tried, from one that no low reaches on down."""
+    number, total, _, records = outcomes
+    if number in (0, 13, 14) and not 1 <= target <= 1000:
+        number = 16
+    if number != 0:
+        return number, [0] * 6
+    weights, belief = Counter(), 0
+    for low, _, weight in records:
+        weights[low] += weight
+    speed = 1 + max(weights)
+    while 1000 * belief < target * total:
+        speed -= 1
+        belief += weights[speed]
+    return 0, bounds_of(outcomes, speed)[1] + [speed]
+
+
+def compare(function, sheet, asked, allowance, outcomes, wanted):
+    """One call with buffers that are long enough; `wanted` is its number and its answers."""
+    number, answers = wanted
+    records = [low.to_bytes(2, "big") + high.to_bytes(2, "big") + weight.to_bytes(8, "big") for low, high, weight in outcomes[3]]
+    store = b"".join(records).ljust(LIST_BYTES, b"\0") if number in (0, 13, 14) else b"\xee" * LIST_BYTES
     answer = b"".join(value.to_bytes(8, "big") for value in answers)
-    got = call(sheet, demand, allowance)
-    assert got[0] == number, f"number {got[0]}, not {number}, on {sheet.hex()}"
-    assert got[1:] == (store, answer), f"other bytes at demand {demand}, allowance {allowance} on {sheet.hex()}"
+    got = call(function, sheet, asked, allowance, LIST_BYTES, len(answer))
+    name = f"{function.__name__} asked {asked}, allowance {allowance}"
+    assert got[0] == number, f"{name}: number {got[0]}, not {number}, on {sheet.hex()}"
+    assert got[1:] == (store, answer), f"{name}: other bytes on {sheet.hex()}"
     return number
 
 
@@ -218,14 +245,27 @@ def random_sheet(r):
     return bytes(sheet)
 
 
+def random_target(r, outcomes):
+    """At the share of a demand or one above, any, or out of range."""
+    _, total, _, records = outcomes
+    if records and r.random() < 0.5:
+        return 1000 * bounds_of(outcomes, r.choice(records)[0])[1][1] // total + r.randint(0, 1)
+    return r.choice([r.randint(1, 1000), r.randint(1, 1000), r.choice([0, 1001, 2**16 + 500, 2**32 - 1])])
+
+
 def main():
     w = make_sheet([(100, [(0, 4, 20), (3, 8, 67), (7, 10, 13)]), (100, [(0, 6, 67), (8, 10, 33)])], [0, 1, SERIES])
-    assert expected(w, 7, 6) == (0, [10000, 429, 2640, 6, 4], [(0, 4, 2000), (0, 6, 5360), (3, 8, 2211), (7, 10, 429)])
-    compare(w, 7, 6)
-    for list_length, answer_length in [(0, 0), (LIST_BYTES - 1, ANSWER_BYTES), (LIST_BYTES, ANSWER_BYTES - 1), (0, ANSWER_BYTES)]:
-        answer = bytes(ANSWER_BYTES) if answer_length == ANSWER_BYTES else b"\xee" * answer_length
-        assert call(w, 7, 6, list_length, answer_length) == (12, b"\xee" * list_length, answer), "short buffers"
-    assert drive_bounds(None, 0, 0, 0, None, 0, None, 0) == 1 and drive_bounds(w, len(w), 0, 0, None, 0, None, 0) == 12, "null"
+    outcomes = outcomes_of(w, 6)
+    assert outcomes == (0, 10000, 6, [(0, 4, 2000), (0, 6, 5360), (3, 8, 2211), (7, 10, 429)])
+    assert bounds_of(outcomes, 7) == (0, [10000, 429, 2640, 6, 4]) and speed_of(outcomes, 42) == (0, [10000, 429, 2640, 6, 4, 7])
+    compare(drive_bounds, w, 7, 6, outcomes, bounds_of(outcomes, 7))
+    for target in 0, 1, 42, 43, 264, 265, 1000, 1001, 2**32 - 1:
+        compare(drive_speed, w, target, 6, outcomes, speed_of(outcomes, target))
+    for function, asked, needed in (drive_bounds, 7, ANSWER_BYTES), (drive_speed, 42, SPEED_BYTES), (drive_speed, 0, SPEED_BYTES):
+        for list_length, answer_length in [(0, 0), (LIST_BYTES - 1, needed), (LIST_BYTES, needed - 1), (0, needed)]:
+            answer = bytes(needed) if answer_length == needed else b"\xee" * answer_length
+            assert call(function, w, asked, 6, list_length, answer_length) == (12, b"\xee" * list_length, answer), "short buffers"
+        assert function(None, 0, asked, 0, None, 0, None, 0) == 1 and function(w, len(w), asked, 0, None, 0, None, 0) == 12, "null"
     assert write_sheet(None, 0, None, 0, None, 0) == 12 and read_sheet_call(None, 0, None, 0) == 1, "null"
     assert read(w, PLAN_BYTES - 1) == (12, b"\xee" * (PLAN_BYTES + 15)), "a short plan buffer"
     plan = read(w)[1][:PLAN_BYTES]
@@ -234,14 +274,17 @@ def main():
     assert write(bytes(PLAN_BYTES)) == (3, b"\xee" * (SHEET_BYTES + 16), bytes(8) + b"\xee" * 16), "an empty plan"
     print("ok Python: one sheet, short buffers, null pointers")
 
-    r, met = random.Random(20), Counter()
-    for _ in range(8000):
-        sheet = random_sheet(r)
+    r, met, sheets = random.Random(20), Counter(), 8000
+    for _ in range(sheets):
+        sheet, allowance = random_sheet(r), r.choice([PAIRS_MAX, r.randint(0, 60)])
         round_trip(sheet)
-        met[compare(sheet, r.choice([r.randint(0, 30), r.randint(0, 5000)]), r.choice([PAIRS_MAX, r.randint(0, 60)]))] += 1
-    missing = set(range(15)) - {12} - set(met)
+        outcomes, demand = outcomes_of(sheet, allowance), r.choice([r.randint(0, 30), r.randint(0, 5000)])
+        met["bounds", compare(drive_bounds, sheet, demand, allowance, outcomes, bounds_of(outcomes, demand))] += 1
+        target = random_target(r, outcomes)
+        met["speed", compare(drive_speed, sheet, target, allowance, outcomes, speed_of(outcomes, target))] += 1
+    missing = {*itertools.product(["bounds", "speed"], {*range(15)} - {12}), ("speed", 16)} - set(met)
     assert not missing, f"numbers never met: {missing}"
-    print(f"ok Python: {sum(met.values())} random sheets against the sum over all choices, read and written back")
+    print(f"ok Python: {sheets} random sheets against the sum over all choices, read and written back")
 
 
 main()

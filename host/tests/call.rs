@@ -5,6 +5,10 @@ extern "C" {
         sheet: *const u8, sheet_length: usize, demand: u32, allowance: u32,
         list: *mut u8, list_length: usize, answer: *mut u8, answer_length: usize,
     ) -> u32;
+    fn drive_speed(
+        sheet: *const u8, sheet_length: usize, target: u32, allowance: u32,
+        list: *mut u8, list_length: usize, answer: *mut u8, answer_length: usize,
+    ) -> u32;
     fn drive_write_sheet(
         plan: *const u8, plan_length: usize, sheet: *mut u8, sheet_length: usize, answer: *mut u8, answer_length: usize,
     ) -> u32;
@@ -13,6 +17,7 @@ extern "C" {
 
 const LIST_BYTES: usize = 16384;
 const ANSWER_BYTES: usize = 40;
+const SPEED_ANSWER_BYTES: usize = 48;
 const PLAN_BYTES: usize = 336;
 const LENGTH_BYTES: usize = 8;
 
@@ -29,6 +34,16 @@ fn call(sheet: &[u8], demand: u32, allowance: u32, list: &mut [u8], answer: &mut
     unsafe {
         drive_bounds(
             sheet.as_ptr(), sheet.len(), demand, allowance,
+            list.as_mut_ptr(), list.len(), answer.as_mut_ptr(), answer.len(),
+        )
+    }
+}
+
+fn speed(sheet: &[u8], target: u32, allowance: u32, list: &mut [u8], answer: &mut [u8]) -> u32 {
+    // Safety: as above.
+    unsafe {
+        drive_speed(
+            sheet.as_ptr(), sheet.len(), target, allowance,
             list.as_mut_ptr(), list.len(), answer.as_mut_ptr(), answer.len(),
         )
     }
@@ -67,7 +82,7 @@ fn number(bytes: &[u8]) -> u64 {
 }
 
 fn answers(answer: &[u8]) -> Vec<u64> {
-    answer[..ANSWER_BYTES].chunks(8).map(number).collect()
+    answer.chunks(8).map(number).collect()
 }
 
 fn main() {
@@ -75,7 +90,7 @@ fn main() {
     let mut answer = vec![0xEE; ANSWER_BYTES + 3];
 
     assert_eq!(call(&W, 7, 6, &mut list, &mut answer), 0);
-    assert_eq!(answers(&answer), [10000, 429, 2640, 6, 4]);
+    assert_eq!(answers(&answer[..ANSWER_BYTES]), [10000, 429, 2640, 6, 4]);
     let records: Vec<_> = list[..48].chunks(12).map(|r| (number(&r[..2]), number(&r[2..4]), number(&r[4..]))).collect();
     assert_eq!(records, [(0, 4, 2000), (0, 6, 5360), (3, 8, 2211), (7, 10, 429)]);
     assert!(list[48..LIST_BYTES].iter().all(|byte| *byte == 0));
@@ -91,8 +106,31 @@ fn main() {
     assert_eq!(call(&W, 7, 6, &mut list, &mut answer[..ANSWER_BYTES - 1]), 12);
     assert!(list.iter().chain(&answer).all(|byte| *byte == 0xEE));
     assert_eq!(call(&W, 7, 6, &mut list[..LIST_BYTES - 1], &mut answer), 12);
-    assert!(list.iter().all(|byte| *byte == 0xEE) && answers(&answer) == [0; 5]);
+    assert!(list.iter().all(|byte| *byte == 0xEE) && answers(&answer[..ANSWER_BYTES]) == [0; 5]);
     println!("ok Rust: refusals and short slices");
+
+    let mut bounds_list = vec![0xEE; LIST_BYTES + 3];
+    let mut answer = vec![0xEE; SPEED_ANSWER_BYTES + 3];
+    assert_eq!(call(&W, 3, 6, &mut bounds_list, &mut answer), 0);
+    assert_eq!(speed(&W, 264, 6, &mut list, &mut answer), 0);
+    assert_eq!(answers(&answer[..SPEED_ANSWER_BYTES]), [10000, 2640, 10000, 6, 4, 3]);
+    assert!(list == bounds_list && answer[SPEED_ANSWER_BYTES..] == [0xEE; 3]);
+    assert_eq!(speed(&W, 1000, 6, &mut list, &mut answer), 0);
+    assert_eq!(answers(&answer[..SPEED_ANSWER_BYTES]), [10000, 10000, 10000, 6, 4, 0]);
+    println!("ok Rust: the speed for a share of the time");
+
+    for target in [0, 1001, u32::MAX] {
+        answer.fill(0xEE);
+        assert_eq!(speed(&W, target, 5, &mut list, &mut answer), 16);
+        assert!(list == bounds_list && answers(&answer[..SPEED_ANSWER_BYTES]) == [0; 6]);
+        answer.fill(0xEE);
+        assert_eq!(speed(&W, target, 6, &mut list, &mut answer[..SPEED_ANSWER_BYTES - 1]), 12);
+        assert!(list == bounds_list && answer.iter().all(|byte| *byte == 0xEE));
+        assert_eq!(speed(&W[..29], target, 6, &mut [], &mut []), 1);
+    }
+    assert_eq!(speed(&W, 1, 5, &mut list, &mut answer), 13);
+    assert!(list[..LIST_BYTES].iter().chain(&answer[..SPEED_ANSWER_BYTES]).all(|byte| *byte == 0));
+    println!("ok Rust: refusals of drive_speed");
 
     let mut plan = plan_of_w();
     let mut sheet = vec![0xEE; W.len() + 3];

@@ -13,10 +13,16 @@
 
 #include "drive.h"
 
-/* The signature of drive_bounds, for what is called in its place. */
+/* The signature of drive_bounds, which drive_speed has too, for what is called in their place. */
 typedef uint32_t bounds_fn(const uint8_t *, size_t, uint32_t, uint32_t, uint8_t *, size_t, uint8_t *, size_t);
 
 enum { SHEET_ROOM = 300 };
+
+/* Twice 64 bits, for products that must be exact. */
+__extension__ typedef unsigned __int128 wide;
+
+/* Whether the belief is at least so many thousandths of the total. */
+static inline int meets(struct drive_answer a, uint32_t target) { return (wide)1000 * a.belief >= (wide)target * a.total; }
 
 /* What a sheet says, as values. Places of a component and entries that are not used stay out of the sheet. */
 struct focal {

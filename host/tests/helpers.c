@@ -1,4 +1,4 @@
-/* The header's own functions: plans built and read, and shares in hundredths of a percent. C and C++. */
+/* The header's own functions: plans built and read, shares in hundredths of a percent, an answer with a speed. C and C++. */
 #include "common.h"
 
 /* What the writer answers on a plan. */
@@ -162,8 +162,6 @@ static void test_getters(uint8_t *plan) {
     EXPECT(drive_plan_read_entry(plan, 0) == 0 && drive_plan_total(plan, 0) == 0, "a plan without modules");
 }
 
-__extension__ typedef unsigned __int128 wide;
-
 static void check_hundredths(uint64_t part, uint64_t total) {
     uint32_t down = (uint32_t)((wide)part * 10000 / total), up = (uint32_t)(((wide)part * 10000 + total - 1) / total);
     EXPECT(drive_hundredths_down(part, total) == down, "%llu of %llu, down", (unsigned long long)part, (unsigned long long)total);
@@ -193,6 +191,19 @@ static void test_hundredths(void) {
     finish("shares in hundredths of a percent, against 128 bits");
 }
 
+/* The six answers of drive_speed, from a buffer that ends right behind them. */
+static void test_speed_answer(struct fence pages) {
+    uint8_t *answer = up_to_end(pages, DRIVE_SPEED_ANSWER_BYTES);
+    struct drive_speed_answer a;
+    for (unsigned i = 0; i < DRIVE_SPEED_ANSWER_BYTES; i++) answer[i] = (uint8_t)(i < 40 ? 10 * (i / 8) + i % 8 + 1 : 0);
+    answer[46] = 0x5F, answer[47] = 0xFA;
+    a = drive_read_speed_answer(answer);
+    EXPECT(a.bounds.total == 0x0102030405060708u && a.bounds.belief == 0x0B0C0D0E0F101112u, "total, belief");
+    EXPECT(a.bounds.plausibility == 0x15161718191A1B1Cu && a.bounds.pairs == 0x1F20212223242526u, "plausibility, pairs");
+    EXPECT(a.bounds.intervals == 0x292A2B2C2D2E2F30u && a.speed == 24570, "intervals, speed");
+    finish("the answer of drive_speed as values");
+}
+
 static void test_version(void) {
     char version[32];
     snprintf(version, sizeof version, "%d.%d.%d", DRIVE_VERSION_MAJOR, DRIVE_VERSION_MINOR, DRIVE_VERSION_PATCH);
@@ -212,6 +223,7 @@ int main(void) {
     }
     finish("plans built and read, nothing outside touched, nothing cut to a valid number");
     test_hundredths();
+    test_speed_answer(pages);
     test_version();
     return failures != 0;
 }
