@@ -6,17 +6,18 @@
 #include <pthread.h>
 #include <sys/wait.h>
 
-enum { PLANS = 7, CALLS = 3, THREADS = 4, ROUNDS = 200, STACK = 1 << 18, PAINT = 0xA5 };
+enum { PLANS = 7, CALLS = 4, THREADS = 4, ROUNDS = 200, STACK = 1 << 18, PAINT = 0xA5 };
 
-static const char *const names[CALLS] = {"drive_bounds", "drive_write_sheet", "drive_read_sheet"};
+static const char *const names[CALLS] = {"drive_bounds", "drive_write_sheet", "drive_read_sheet", "drive_speed"};
 
-/* The three calls, linked or from a library, or what is called in their place. */
+/* The four calls, linked or from a library, or what is called in their place. */
 typedef uint32_t write_fn(const uint8_t *, size_t, uint8_t *, size_t, uint8_t *, size_t);
 typedef uint32_t read_fn(const uint8_t *, size_t, uint8_t *, size_t);
 struct calls {
     bounds_fn *bounds;
     write_fn *write;
     read_fn *read;
+    bounds_fn *speed;
 };
 
 /* One of the calls with its own buffers. */
@@ -26,7 +27,7 @@ struct job {
     struct sheet sheet;
     uint8_t plan[DRIVE_PLAN_BYTES];
     uint32_t number;
-    uint8_t list[DRIVE_LIST_BYTES], answer[DRIVE_ANSWER_BYTES];
+    uint8_t list[DRIVE_LIST_BYTES], answer[DRIVE_SPEED_ANSWER_BYTES];
     uint8_t sheet_out[DRIVE_SHEET_BYTES_MAX], plan_out[DRIVE_PLAN_BYTES];
 };
 
@@ -37,8 +38,10 @@ static void run_job(struct job *j) {
         j->number = c->bounds(s->bytes, s->length, 7, DRIVE_PAIRS_MAX, j->list, sizeof j->list, j->answer, sizeof j->answer);
     else if (j->which == 1)
         j->number = c->write(j->plan, sizeof j->plan, j->sheet_out, sizeof j->sheet_out, j->answer, sizeof j->answer);
-    else
+    else if (j->which == 2)
         j->number = c->read(s->bytes, s->length, j->plan_out, sizeof j->plan_out);
+    else
+        j->number = c->speed(s->bytes, s->length, 750, DRIVE_PAIRS_MAX, j->list, sizeof j->list, j->answer, sizeof j->answer);
 }
 
 static struct plan plan_of(unsigned i) {
@@ -87,7 +90,8 @@ static uint32_t no_read(const uint8_t *sheet, size_t sheet_length, uint8_t *plan
     return (uint32_t)(sheet_length + plan_length);
 }
 
-static const struct calls linked = {drive_bounds, drive_write_sheet, drive_read_sheet}, nothing = {no_bounds, no_write, no_read};
+static const struct calls linked = {drive_bounds, drive_write_sheet, drive_read_sheet, drive_speed};
+static const struct calls nothing = {no_bounds, no_write, no_read, no_bounds};
 
 static void *one_job(void *job) {
     run_job((struct job *)job);
@@ -128,7 +132,7 @@ static size_t stack_of_first(const char *library, unsigned which, unsigned plan)
     if (pipe(ends) != 0) exit(2);
     pid_t child = fork();
     if (child == 0) {
-        struct calls calls = {NULL, NULL, NULL};
+        struct calls calls = {NULL, NULL, NULL, NULL};
         void *handle = dlopen(library, RTLD_LAZY | RTLD_LOCAL), *function = handle == NULL ? NULL : dlsym(handle, names[which]);
         if (function == NULL) {
             fprintf(stderr, "%s: %s\n", library, dlerror());
@@ -137,6 +141,7 @@ static size_t stack_of_first(const char *library, unsigned which, unsigned plan)
         if (which == 0) memcpy(&calls.bounds, &function, sizeof function);
         if (which == 1) memcpy(&calls.write, &function, sizeof function);
         if (which == 2) memcpy(&calls.read, &function, sizeof function);
+        if (which == 3) memcpy(&calls.speed, &function, sizeof function);
         used = stack_of(&calls, which, plan);
         _exit(write(ends[1], &used, sizeof used) == (ssize_t)sizeof used ? 0 : 2);
     }
@@ -166,13 +171,7 @@ static void test_stack(const char *library) {
 
 /* The results of the calls, one after the other, by one thread. */
 enum { JOBS = CALLS * PLANS };
-static struct job alone[JOBS], together[THREADS][JOBS];
-
-static void *many_jobs(void *jobs) {
-    for (unsigned round = 0; round < ROUNDS; round++)
-        for (unsigned i = 0; i < JOBS; i++) run_job((struct job *)jobs + i);
-    return NULL;
-}
+static struct job alone[JOBS];
 
 static int same(const struct job *x, const struct job *y) {
     return x->number == y->number && memcmp(x->list, y->list, sizeof x->list) == 0 &&
@@ -180,19 +179,36 @@ static int same(const struct job *x, const struct job *y) {
            memcmp(x->plan_out, y->plan_out, sizeof x->plan_out) == 0;
 }
 
+/* One of several threads with its own jobs, and how many of their results were others. */
+struct worker {
+    struct job job[JOBS];
+    unsigned others;
+};
+
+static void *many_jobs(void *worker) {
+    struct worker *w = (struct worker *)worker;
+    for (unsigned round = 0; round < ROUNDS; round++) {
+        for (unsigned i = 0; i < JOBS; i++) {
+            run_job(&w->job[i]);
+            w->others += !same(&alone[i], &w->job[i]);
+        }
+    }
+    return NULL;
+}
+
 static void test_threads(void) {
+    static struct worker workers[THREADS];
     pthread_t thread[THREADS];
     for (unsigned i = 0; i < JOBS; i++) {
         alone[i] = make_job(&linked, i / PLANS, i % PLANS);
-        for (unsigned t = 0; t < THREADS; t++) together[t][i] = alone[i];
+        for (unsigned t = 0; t < THREADS; t++) workers[t].job[i] = alone[i];
         run_job(&alone[i]);
     }
     for (unsigned t = 0; t < THREADS; t++)
-        if (pthread_create(&thread[t], NULL, many_jobs, together[t]) != 0) exit(2);
+        if (pthread_create(&thread[t], NULL, many_jobs, &workers[t]) != 0) exit(2);
     for (unsigned t = 0; t < THREADS; t++) {
         pthread_join(thread[t], NULL);
-        for (unsigned i = 0; i < JOBS; i++)
-            EXPECT(same(&alone[i], &together[t][i]), "thread %u, job %u: another result than alone", t, i);
+        EXPECT(workers[t].others == 0, "thread %u: %u results that are not those of one thread alone", t, workers[t].others);
     }
     finish("calls in several threads at once");
 }
