@@ -1,39 +1,60 @@
-/* Times the call against the same job in plain C, in turns. bench check: only that both give the same. */
+/* Times the calls that ask a sheet against the same jobs in plain C, in turns. bench check: only that both give the same. */
 #include "../tests/common.h"
 
 #include <time.h>
 
 #include "../bench/plain.h"
 
-enum { TURNS = 301, TURN_NS = 400000 };
+enum { TURNS = 301, TURN_NS = 400000, ASKS = 3 };
 
 struct bench {
     const char *name;
     struct sheet sheet;
 };
 
-static uint8_t list[DRIVE_LIST_BYTES], answer[DRIVE_ANSWER_BYTES];
-static uint8_t plain_list[DRIVE_LIST_BYTES], plain_answer[DRIVE_ANSWER_BYTES];
+/* A call, or plain C in its place, and the demand or the target that it is asked. */
+struct ask {
+    bounds_fn *function;
+    uint32_t asked;
+};
+
+static const struct ask bounds_asks[] = {{drive_bounds, 7}, {plain_bounds, 7}};
+
+static uint8_t list[DRIVE_LIST_BYTES], answer[DRIVE_SPEED_ANSWER_BYTES];
+static uint8_t plain_list[DRIVE_LIST_BYTES], plain_answer[DRIVE_SPEED_ANSWER_BYTES];
 
 static size_t room = sizeof list;
 
-static uint32_t call(bounds_fn *f, const struct sheet *s) {
-    return f(s->bytes, s->length, 7, DRIVE_PAIRS_MAX, list, room, answer, sizeof answer);
+static uint32_t call(struct ask a, const struct sheet *s) {
+    return a.function(s->bytes, s->length, a.asked, DRIVE_PAIRS_MAX, list, room, answer, sizeof answer);
 }
 
-/* The pair count of the sheet; both must answer alike, and accept. */
-static uint64_t same_answers(const struct bench *b) {
+/* The pair count of the sheet; the call and plain C must answer alike, and accept. */
+static uint64_t same_answers(const struct bench *b, struct ask drive, struct ask plain) {
     const struct sheet *s = &b->sheet;
     uint32_t x, y;
     memset(list, 1, sizeof list);
     memset(plain_list, 2, sizeof plain_list);
-    x = call(drive_bounds, s);
-    y = plain_bounds(s->bytes, s->length, 7, DRIVE_PAIRS_MAX, plain_list, sizeof plain_list, plain_answer, sizeof plain_answer);
+    memset(answer, 3, sizeof answer);
+    memset(plain_answer, 3, sizeof plain_answer);
+    x = call(drive, s);
+    y = plain.function(s->bytes, s->length, plain.asked, DRIVE_PAIRS_MAX, plain_list, sizeof plain_list, plain_answer,
+                       sizeof plain_answer);
     if (x != 0 || y != 0 || memcmp(list, plain_list, sizeof list) != 0 || memcmp(answer, plain_answer, sizeof answer) != 0) {
-        printf("FAILED %s: numbers %u and %u, or other bytes\n", b->name, x, y);
+        printf("FAILED %s, asked %u: numbers %u and %u, or other bytes\n", b->name, drive.asked, x, y);
         exit(1);
     }
     return drive_read_answer(answer).pairs;
+}
+
+static uint64_t same_bounds(const struct bench *b) { return same_answers(b, bounds_asks[0], bounds_asks[1]); }
+
+static void same_speeds(const struct bench *b) {
+    static const uint32_t targets[] = {1, 250, 500, 750, 900, 950, 999, DRIVE_TARGET_MAX};
+    for (size_t i = 0; i < sizeof targets / sizeof *targets; i++) {
+        struct ask drive = {drive_speed, targets[i]}, plain = {plain_speed, targets[i]};
+        same_answers(b, drive, plain);
+    }
 }
 
 static double now(void) {
@@ -43,9 +64,9 @@ static double now(void) {
 }
 
 /* One turn: nanoseconds a call. */
-static double turn(bounds_fn *f, const struct sheet *s, unsigned calls) {
+static double turn(struct ask a, const struct sheet *s, unsigned calls) {
     double start = now();
-    for (unsigned i = 0; i < calls; i++) call(f, s);
+    for (unsigned i = 0; i < calls; i++) call(a, s);
     return (now() - start) / calls;
 }
 
@@ -59,18 +80,33 @@ static double median(double *values) {
     return values[TURNS / 2];
 }
 
-/* Turns alternate, and so does who begins, so that the machine's drift meets both alike. */
-static void time_both(const struct sheet *s, double *drive, double *plain) {
-    static double drive_turns[TURNS], plain_turns[TURNS];
-    double once = turn(plain_bounds, s, 20);
+/* Turns alternate, and so does who begins, so that the machine's drift meets all alike. The second is plain C. */
+static void time_turns(const struct sheet *s, const struct ask *asks, unsigned count, double *medians) {
+    static double turns[ASKS][TURNS];
+    double once = turn(asks[1], s, 20);
     unsigned calls = 1 + (unsigned)(TURN_NS / once);
-    for (unsigned i = 0; i < TURNS; i++) {
-        if (i % 2 == 0) drive_turns[i] = turn(drive_bounds, s, calls);
-        plain_turns[i] = turn(plain_bounds, s, calls);
-        if (i % 2 != 0) drive_turns[i] = turn(drive_bounds, s, calls);
-    }
-    *drive = median(drive_turns);
-    *plain = median(plain_turns);
+    for (unsigned i = 0; i < TURNS; i++)
+        for (unsigned j = 0; j < count; j++) turns[(i + j) % count][i] = turn(asks[(i + j) % count], s, calls);
+    for (unsigned j = 0; j < count; j++) medians[j] = median(turns[j]);
+}
+
+static void time_bounds(const struct sheet *s, double *drive, double *plain) {
+    double medians[2];
+    time_turns(s, bounds_asks, 2, medians);
+    *drive = medians[0];
+    *plain = medians[1];
+}
+
+/* drive_speed at the greatest target, for which it tries every low, beside drive_bounds at the speed that it answers. */
+static void print_speed(const struct bench *b) {
+    struct ask asks[ASKS] = {{drive_speed, DRIVE_TARGET_MAX}, {plain_speed, DRIVE_TARGET_MAX}, {drive_bounds, 0}};
+    uint64_t pairs = same_answers(b, asks[0], asks[1]);
+    double ns[ASKS], adds;
+    asks[2].asked = drive_read_speed_answer(answer).speed;
+    time_turns(&b->sheet, asks, ASKS, ns);
+    adds = ns[0] - ns[2];
+    printf("%-22s %9llu %11.0f %11.0f %7.2f", b->name, (unsigned long long)pairs, ns[0], ns[1], ns[0] / ns[1]);
+    printf(" %13.0f %9.0f %8.1f\n", ns[2], adds, 100 * adds / ns[2]);
 }
 
 static struct bench bench_of(const char *name, struct plan p) {
@@ -122,10 +158,10 @@ int main(int argc, char **argv) {
         fprintf(stderr, "usage: bench [check]\n");
         return 2;
     }
-    for (unsigned i = 0; i < ROWS; i++) same_answers(&rows[i]);
-    for (unsigned i = 0; i < GROWTH; i++) same_answers(&growth[i]);
+    for (unsigned i = 0; i < ROWS; i++) same_bounds(&rows[i]), same_speeds(&rows[i]);
+    for (unsigned i = 0; i < GROWTH; i++) same_bounds(&growth[i]), same_speeds(&growth[i]);
     if (check) {
-        printf("ok C: the sheets of the bench get the same answers from the call and from plain C\n");
+        printf("ok C: the sheets of the bench get the same answers from the calls and from plain C\n");
         return 0;
     }
 
@@ -134,8 +170,8 @@ int main(int argc, char **argv) {
            TURNS, TURN_NS / 1000);
     printf("%-22s %9s %11s %11s %7s\n", "sheet", "pairs", "call", "plain C", "ratio");
     for (unsigned i = 0; i < ROWS; i++) {
-        uint64_t pairs = same_answers(&rows[i]);
-        time_both(&rows[i].sheet, &drive, &plain);
+        uint64_t pairs = same_bounds(&rows[i]);
+        time_bounds(&rows[i].sheet, &drive, &plain);
         printf("%-22s %9llu %11.0f %11.0f %7.2f\n", rows[i].name, (unsigned long long)pairs, drive, plain, drive / plain);
     }
 
@@ -143,7 +179,7 @@ int main(int argc, char **argv) {
     printf("%-22s %9s %11s %11s %7s\n", "sheet", "bytes", "call", "plain C", "ratio");
     room = 0;
     for (unsigned i = 0; i < ROWS; i += ROWS - 1) {
-        time_both(&rows[i].sheet, &drive, &plain);
+        time_bounds(&rows[i].sheet, &drive, &plain);
         printf("%-22s %9zu %11.0f %11.0f %7.2f\n", rows[i].name, rows[i].sheet.length, drive, plain, drive / plain);
     }
     room = sizeof list;
@@ -151,13 +187,19 @@ int main(int argc, char **argv) {
     printf("\nGrowth with the pair count: two lists of single speeds in series; ns for each pair more than in the line before\n\n");
     printf("%-22s %9s %11s %11s %7s %12s\n", "lists", "pairs", "call", "plain C", "ratio", "call, ns/pair");
     for (unsigned i = 0; i < GROWTH; i++) {
-        uint64_t pairs = same_answers(&growth[i]);
-        time_both(&growth[i].sheet, &drive, &plain);
+        uint64_t pairs = same_bounds(&growth[i]);
+        time_bounds(&growth[i].sheet, &drive, &plain);
         printf("%-22s %9llu %11.0f %11.0f %7.2f", growth[i].name, (unsigned long long)pairs, drive, plain, drive / plain);
         if (i > 0) printf(" %13.2f", (drive - before) / (double)(pairs - pairs_before));
         printf("\n");
         before = drive;
         pairs_before = pairs;
     }
+
+    printf("\ndrive_speed at target %d, for which it tries every low of the list; what that adds to drive_bounds at the speed\n\n",
+           DRIVE_TARGET_MAX);
+    printf("%-22s %9s %11s %11s %7s", "sheet", "pairs", "call", "plain C", "ratio");
+    printf(" %13s %9s %8s\n", "drive_bounds", "adds, ns", "adds, %");
+    for (unsigned i = 0; i < ROWS; i += ROWS - 1) print_speed(&rows[i]);
     return 0;
 }

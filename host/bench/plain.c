@@ -10,7 +10,9 @@ enum {
     INTERVALS = 256,
     RECORD_BYTES = 12,
     LIST_BYTES = 16384,
-    ANSWER_BYTES = 40
+    ANSWER_BYTES = 40,
+    SPEED_ANSWER_BYTES = 48,
+    TARGET_MAX = 1000
 };
 
 /* An interval with its weight. The key is low in the upper 16 bits and high in the lower 16, so that keys stand in list order. */
@@ -203,25 +205,49 @@ static uint8_t *put64(uint8_t *out, uint64_t value) {
     return put32(put32(out, (uint32_t)(value >> 32)), (uint32_t)value);
 }
 
-uint32_t plain_bounds(const uint8_t *sheet, size_t sheet_length, uint32_t demand, uint32_t allowance, uint8_t *list,
-                      size_t list_length, uint8_t *answer, size_t answer_length) {
+static uint64_t total_of(const struct plan *p) {
+    uint64_t total = 1;
+    for (unsigned i = 0; i < p->components; i++) total *= p->component[i].total;
+    return total;
+}
+
+/* The least belief that is at least so many thousandths of the total. Target times total would not fit 64 bits. */
+static uint64_t least_belief(uint32_t target, uint64_t total) {
+    return target * (total / TARGET_MAX) + (target * (total % TARGET_MAX) + TARGET_MAX - 1) / TARGET_MAX;
+}
+
+/* The greatest demand with at least this belief, which is not above the total: the first such low from the fast end. */
+static uint32_t greatest_demand(const struct list *drive, uint64_t least) {
+    unsigned i = drive->count;
+    uint64_t belief = 0;
+    do belief += drive->focal[--i].weight;
+    while (belief < least);
+    return drive->focal[i].key >> 16;
+}
+
+/* Both calls. What is asked is a demand or, where the answer has a speed, a target. */
+static uint32_t ask(int has_speed, const uint8_t *sheet, size_t sheet_length, uint32_t asked, uint32_t allowance, uint8_t *list,
+                    size_t list_length, uint8_t *answer, size_t answer_length) {
     struct plan plan;
     struct list lists[COMPONENTS + 1];
     const struct list *drive;
-    uint64_t pairs, total = 1, belief = 0, plausibility = 0;
+    uint64_t pairs, belief = 0, plausibility = 0;
 
     unsigned number = read_sheet(sheet, sheet_length, &plan);
-    if (answer_length < ANSWER_BYTES) return number != 0 ? number : 12;
+    if (answer_length < (has_speed ? SPEED_ANSWER_BYTES : ANSWER_BYTES)) return number != 0 ? number : 12;
     if (number == 0 && list_length < LIST_BYTES) number = 12;
+    if (number == 0 && has_speed && (asked < 1 || asked > TARGET_MAX)) number = 16;
     if (number == 0) {
         number = run(&plan, allowance, lists, &drive, &pairs);
         if (number != 0) memset(list, 0, LIST_BYTES);
     }
     if (number != 0) {
         memset(answer, 0, ANSWER_BYTES);
+        if (has_speed) put64(answer + ANSWER_BYTES, 0);
         return number;
     }
 
+    uint32_t demand = has_speed ? greatest_demand(drive, least_belief(asked, total_of(&plan))) : asked;
     uint8_t *out = list;
     for (unsigned i = 0; i < drive->count; i++) {
         struct focal f = drive->focal[i];
@@ -231,11 +257,21 @@ uint32_t plain_bounds(const uint8_t *sheet, size_t sheet_length, uint32_t demand
         out = put64(out, f.weight);
     }
     memset(out, 0, LIST_BYTES - drive->count * RECORD_BYTES);
-    for (unsigned i = 0; i < plan.components; i++) total *= plan.component[i].total;
-    out = put64(answer, total);
+    out = put64(answer, total_of(&plan));
     out = put64(out, belief);
     out = put64(out, plausibility);
     out = put64(out, pairs);
-    put64(out, drive->count);
+    out = put64(out, drive->count);
+    if (has_speed) put64(out, demand);
     return 0;
+}
+
+uint32_t plain_bounds(const uint8_t *sheet, size_t sheet_length, uint32_t demand, uint32_t allowance, uint8_t *list,
+                      size_t list_length, uint8_t *answer, size_t answer_length) {
+    return ask(0, sheet, sheet_length, demand, allowance, list, list_length, answer, answer_length);
+}
+
+uint32_t plain_speed(const uint8_t *sheet, size_t sheet_length, uint32_t target, uint32_t allowance, uint8_t *list,
+                     size_t list_length, uint8_t *answer, size_t answer_length) {
+    return ask(1, sheet, sheet_length, target, allowance, list, list_length, answer, answer_length);
 }

@@ -1,10 +1,11 @@
-/* The call against the same job in plain C, and against the program "bounds", on random sheets, valid and damaged.
+/* drive_bounds and drive_speed against the same jobs in plain C, and drive_bounds against the program "bounds", on random sheets,
+ * valid and damaged.
  * compare BOUNDS FILE: the program, and a file to put its input in. */
 #include "common.h"
 
 #include "../bench/plain.h"
 
-enum { SHEETS = 40000, PROGRAM_EVERY = 100, LIST_ROOM = DRIVE_LIST_BYTES + 16, ANSWER_ROOM = DRIVE_ANSWER_BYTES + 16 };
+enum { SHEETS = 30000, PROGRAM_EVERY = 100, LIST_ROOM = DRIVE_LIST_BYTES + 16, ANSWER_ROOM = DRIVE_SPEED_ANSWER_BYTES + 16 };
 
 static unsigned between(unsigned from, unsigned to) { return from + random_below(to - from + 1); }
 
@@ -94,7 +95,7 @@ static void damage_sheet(struct sheet *s) {
     }
 }
 
-/* One call, with its own buffers behind which nothing can be touched. */
+/* A call or plain C, with its own buffers behind which nothing can be touched. */
 struct side {
     bounds_fn *call;
     struct fence list_pages, answer_pages;
@@ -102,17 +103,62 @@ struct side {
     uint32_t number;
 };
 
-static void run_side(struct side *side, const uint8_t *sheet, size_t length, uint32_t demand, uint32_t allowance, size_t list_length,
+static struct side make_side(bounds_fn *call) {
+    struct side side = {call, make_fence(LIST_ROOM), make_fence(ANSWER_ROOM), NULL, NULL, 0};
+    return side;
+}
+
+/* What is asked is a demand or a target. */
+static void run_side(struct side *side, const uint8_t *sheet, size_t length, uint32_t asked, uint32_t allowance, size_t list_length,
                      size_t answer_length) {
     side->list = up_to_end(side->list_pages, list_length);
     side->answer = up_to_end(side->answer_pages, answer_length);
     fill_marks(side->list, list_length);
     fill_marks(side->answer, answer_length);
-    side->number = side->call(sheet, length, demand, allowance, side->list, list_length, side->answer, answer_length);
+    side->number = side->call(sheet, length, asked, allowance, side->list, list_length, side->answer, answer_length);
 }
 
-static int same(const struct side *x, const struct side *y, size_t list_length, size_t answer_length) {
-    return x->number == y->number && memcmp(x->list, y->list, list_length) == 0 && memcmp(x->answer, y->answer, answer_length) == 0;
+/* A call and plain C, on how many sheets so far, and how often each number was met. */
+struct both {
+    const char *name;
+    size_t answer_bytes;
+    struct side drive, plain;
+    unsigned sheets, met[DRIVE_NUMBER_COUNT];
+};
+
+/* Both on a sheet: the same number, and the same bytes in every place. Buffers have exactly the bytes they need, or any number. */
+static void run_both(struct both *b, int exact, const uint8_t *sheet, size_t length, uint32_t asked, uint32_t allowance) {
+    size_t list_length = DRIVE_LIST_BYTES, answer_length = b->answer_bytes;
+    if (!exact) {
+        list_length = random_below(4) == 0 ? random_below(LIST_ROOM) : between(DRIVE_LIST_BYTES - 1, LIST_ROOM);
+        answer_length = random_below(4) == 0 ? random_below(ANSWER_ROOM) : between((unsigned)b->answer_bytes - 1, ANSWER_ROOM);
+    }
+    run_side(&b->drive, sheet, length, asked, allowance, list_length, answer_length);
+    run_side(&b->plain, sheet, length, asked, allowance, list_length, answer_length);
+    EXPECT(b->drive.number == b->plain.number && memcmp(b->drive.list, b->plain.list, list_length) == 0 &&
+               memcmp(b->drive.answer, b->plain.answer, answer_length) == 0,
+           "%s, sheet %u, asked %u: numbers %u and %u, or other bytes", b->name, b->sheets, asked, b->drive.number, b->plain.number);
+    if (b->drive.number < DRIVE_NUMBER_COUNT) b->met[b->drive.number]++;
+    b->sheets++;
+}
+
+/* Each number that a call has must have been met. */
+static void print_met(const struct both *b, uint32_t last) {
+    printf("   %s met", b->name);
+    for (uint32_t number = 0; number <= last; number++) {
+        if (number == DRIVE_E_SHEET_BUFFER) continue;
+        EXPECT(b->met[number] >= 20, "%s: number %u met only %u times", b->name, number, b->met[number]);
+        printf(" %u: %u", number, b->met[number]);
+    }
+    printf("\n");
+}
+
+/* A target: half of them at the share that an answer has or one above, some out of range. */
+static uint32_t random_target(struct drive_answer a) {
+    static const uint32_t outside[] = {0, 1001, 1024 + 500, 65536 + 500, UINT32_MAX};
+    if (random_below(8) == 0) return outside[random_below(5)];
+    if (random_below(2) == 0 || a.total == 0) return between(1, DRIVE_TARGET_MAX);
+    return (uint32_t)((wide)1000 * a.belief / a.total) + random_below(2);
 }
 
 static void put32(FILE *f, uint32_t value) {
@@ -178,9 +224,9 @@ static void test_short_input(const char *program, const char *file) {
 
 int main(int argc, char **argv) {
     struct fence sheet_pages = make_fence(SHEET_ROOM);
-    struct side drive = {drive_bounds, make_fence(LIST_ROOM), make_fence(ANSWER_ROOM), NULL, NULL, 0};
-    struct side plain = {plain_bounds, make_fence(LIST_ROOM), make_fence(ANSWER_ROOM), NULL, NULL, 0};
-    unsigned met[DRIVE_NUMBER_COUNT] = {0}, programs = 0;
+    struct both bounds = {"drive_bounds", DRIVE_ANSWER_BYTES, make_side(drive_bounds), make_side(plain_bounds), 0, {0}};
+    struct both speed = {"drive_speed", DRIVE_SPEED_ANSWER_BYTES, make_side(drive_speed), make_side(plain_speed), 0, {0}};
+    unsigned programs = 0;
     if (argc != 3) {
         fprintf(stderr, "usage: compare BOUNDS FILE\n");
         return 2;
@@ -198,33 +244,22 @@ int main(int argc, char **argv) {
         memcpy(sheet, s.bytes, s.length);
 
         /* Half of the allowances stand at the pair count or one below. */
-        size_t list_length = DRIVE_LIST_BYTES, answer_length = DRIVE_ANSWER_BYTES;
         uint32_t demand = random_below(random_below(2) == 0 ? 30 : 5000), allowance = DRIVE_PAIRS_MAX;
-        run_side(&plain, sheet, s.length, demand, allowance, list_length, answer_length);
-        if (random_below(2) == 0) {
-            uint32_t pairs = (uint32_t)drive_read_answer(plain.answer).pairs;
-            allowance = pairs > 0 ? pairs - random_below(2) : 0;
-        }
+        run_side(&bounds.plain, sheet, s.length, demand, allowance, DRIVE_LIST_BYTES, DRIVE_ANSWER_BYTES);
+        struct drive_answer a = drive_read_answer(bounds.plain.answer);
+        if (random_below(2) == 0) allowance = a.pairs > 0 ? (uint32_t)a.pairs - random_below(2) : 0;
         int exact = random_below(8) != 0;
-        if (!exact) {
-            list_length = random_below(4) == 0 ? random_below(LIST_ROOM) : between(DRIVE_LIST_BYTES - 1, LIST_ROOM);
-            answer_length = random_below(4) == 0 ? random_below(ANSWER_ROOM) : between(DRIVE_ANSWER_BYTES - 1, ANSWER_ROOM);
-        }
-        run_side(&drive, sheet, s.length, demand, allowance, list_length, answer_length);
-        run_side(&plain, sheet, s.length, demand, allowance, list_length, answer_length);
-        EXPECT(same(&drive, &plain, list_length, answer_length), "sheet %u: numbers %u and %u, or other bytes", i, drive.number,
-               plain.number);
-        if (drive.number < DRIVE_NUMBER_COUNT) met[drive.number]++;
+        run_both(&bounds, exact, sheet, s.length, demand, allowance);
+        run_both(&speed, exact, sheet, s.length, random_target(a), allowance);
         if (exact && i % PROGRAM_EVERY < 2) {
-            compare_program(argv[1], argv[2], &drive, sheet, s.length, demand, allowance);
+            compare_program(argv[1], argv[2], &bounds.drive, sheet, s.length, demand, allowance);
             programs++;
         }
     }
-    for (unsigned number = 0; number <= 14; number++) EXPECT(met[number] >= 20, "number %u met only %u times", number, met[number]);
-    printf("   %d random sheets, %u of them also by bounds; numbers 0 to 14 met", SHEETS, programs);
-    for (unsigned number = 0; number <= 14; number++) printf(" %u", met[number]);
-    printf(" times\n");
-    finish("the call, plain C and bounds agree on random sheets");
+    printf("   %d random sheets, %u of them also by bounds\n", SHEETS, programs);
+    print_met(&bounds, DRIVE_E_LIST);
+    print_met(&speed, DRIVE_E_TARGET);
+    finish("the calls, plain C and bounds agree on random sheets");
     test_short_input(argv[1], argv[2]);
     return failures != 0;
 }
