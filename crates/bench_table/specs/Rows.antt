@@ -40,6 +40,13 @@ componentA = componentOf 4 2 (0 ∷ 0 ∷ 1 ∷ []) (2 ∷ 3 ∷ 3 ∷ []) (repl
 unfoldable pub componentB : Component
 componentB = componentOf 3 2 (1 ∷ 1 ∷ 2 ∷ []) (1 ∷ 4 ∷ 1 ∷ []) (replicate 3 0)
 
+-- W: "[0,4] 20, [3,8] 67, [7,10] 13, in series with [0,6] 67, [8,10] 33".
+unfoldable pub W0 : Component
+W0 = componentOf 100 3 (0 ∷ 4 ∷ 20 ∷ []) (3 ∷ 8 ∷ 67 ∷ []) (7 ∷ 10 ∷ 13 ∷ [])
+
+unfoldable pub W1 : Component
+W1 = componentOf 100 2 (0 ∷ 6 ∷ 67 ∷ []) (8 ∷ 10 ∷ 33 ∷ []) (replicate 3 0)
+
 -- "j, 8 times j, 64 times j, j from 0 to 7 (in D3 only the first so many)".
 abbrev pub times : ℕ → List ℕ
 times step = map (λ j. step * j) (countFrom 0 8)
@@ -61,6 +68,10 @@ chain n x y z join =
 -- A plan's sheet.
 unfoldable pub sheetOf : Plan → Sheet
 sheetOf p = record { bytes = bytesAfter p (replicate longest 0); length = (writtenOf p longest) .length }
+
+-- The sheet of A and B with another structure, which has its bytes 24 and 25.
+unfoldable pub restructured : Sheet → ℕ → ℕ → Sheet
+restructured s first second = record { bytes = set (set (s .bytes) 24 first) 25 second; length = s .length }
 
 -- The bytes of a sheet.
 abbrev pub bytesOf : Sheet → List ℕ

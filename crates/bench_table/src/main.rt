@@ -2,6 +2,7 @@
 // with the table's. Prints a line for each row, and how many rows disagree. What is printed is open in the contracts of the functions that
 // print, and so is the count of rows that they hand on; every other function says what it answers.
 use evaluate::Answer;
+use evaluate::Promise;
 use libc::STDOUT_FILENO;
 use plan::Plan;
 use plan::SERIES_CODE;
@@ -12,11 +13,12 @@ ghost use mathlib.Core.Path.{_≡_};
 ghost use Prim.Native.Nat.{_+_, _*_, _≤_, _<_};
 ghost use lib.ListN.{length, take};
 ghost use Rattle.theory.specs.Limits.{mostIntervals, storeBytes};
-ghost use Rattle.plan.specs.Plan.{sharedCode};
-ghost use Rattle.evaluate.specs.Answer.{answer};
+ghost use Rattle.plan.specs.Plan.{seriesCode, sharedCode};
+ghost use Rattle.evaluate.specs.Answer.{answer, refusal as Answer·refusal};
 ghost use Rattle.evaluate.specs.Store.{storeAfter};
+ghost use Rattle.evaluate.specs.Speed.{promise, speedStoreAfter};
 ghost use Rattle.evaluate.specs.Bench.{accepted as Bench·accepted};
-ghost use Rattle.bench_table.specs.Rows.{componentOf, singleSpeeds, componentA, componentB, D1, D2, D3, chain, sheetOf};
+ghost use Rattle.bench_table.specs.Rows.{componentOf, singleSpeeds, componentA, componentB, W0, W1, D1, D2, D3, chain, sheetOf, restructured};
 ghost use Rattle.bench_table.specs.Rows.{bytesOf, answersDiffer, recordDiffers, listDiffers, speedsBelow};
 
 // The bytes of the longest sheet, and of the store in all rows but one.
@@ -135,6 +137,15 @@ fn answered(s: Sheet, demand: u32, allowance: u32, store: &mut [u8]) -> Answer
     evaluate::bounds(front(&bytes, s.length), demand, allowance, store)
 }
 
+// The call for a speed on a sheet and a store of any length.
+fn promised(s: Sheet, target: u32, allowance: u32, store: &mut [u8]) -> Promise
+    ensures { λ r. ⌜ r ≡ promise (bytesOf s) target allowance (length (now (store .entry))) ⌝ }
+    ensures { λ _. ⌜ now (store .exit) ≡ speedStoreAfter (bytesOf s) target allowance (now (store .entry)) ⌝ }
+{
+    let bytes = s.bytes;
+    evaluate::speed(front(&bytes, s.length), target, allowance, store)
+}
+
 fn answers_differ(a: Answer, b: Answer) -> bool
     ensures { λ r. ⌜ r ≡ answersDiffer a b ⌝ }
 {
@@ -219,8 +230,26 @@ fn every_speed() -> [u64; 3 * theory::MOST_INTERVALS]
     list
 }
 
-// Runs a row on a store of `room` bytes, and prints what came out and whether it agrees with the table. Answers how many rows disagree,
-// n before this one.
+// Prints an answer, its list, and whether both agree with the table, where nothing else is `wrong`. Answers how many rows disagree, n
+// before this one.
+fn judge(n: u64, a: Answer, want: Answer, store: &[u8; ROOM], list: &[u64], wrong: bool) -> u64
+    requires { ⌜ length (now list) ≤ 3 * mostIntervals ⌝ }
+{
+    print_answer(a);
+    print_list(store, a.intervals);
+    let differs = plan::either(
+        answers_differ(a, want),
+        list_differs(store, a.intervals, list),
+    );
+    if plan::either(wrong, differs) {
+        io::write_all(STDOUT_FILENO, b": DISAGREES\n");
+        return std::num::wrapping_add_u64(n, 1);
+    }
+    io::write_all(STDOUT_FILENO, b": agrees\n");
+    n
+}
+
+// Runs a row on a store of `room` bytes.
 fn row(
     n: u64,
     s: Sheet,
@@ -234,14 +263,27 @@ fn row(
 {
     let mut store = [0u8; ROOM];
     let a = answered(s, demand, allowance, &mut store[0..room]);
-    print_answer(a);
-    print_list(&store, a.intervals);
-    if answers_differ(a, want) || list_differs(&store, a.intervals, list) {
-        io::write_all(STDOUT_FILENO, b": DISAGREES\n");
-        return std::num::wrapping_add_u64(n, 1);
-    }
-    io::write_all(STDOUT_FILENO, b": agrees\n");
-    n
+    judge(n, a, want, &store, list, false)
+}
+
+// Runs a row for a speed.
+fn speed_row(
+    n: u64,
+    s: Sheet,
+    target: u32,
+    allowance: u32,
+    room: usize,
+    speed: u64,
+    want: Answer,
+    list: &[u64],
+) -> u64
+    requires { ⌜ (room ≤ storeBytes) × (length (now list) ≤ 3 * mostIntervals) ⌝ }
+{
+    let mut store = [0u8; ROOM];
+    let p = promised(s, target, allowance, &mut store[0..room]);
+    let a = p.answer;
+    print(b": speed ", p.speed);
+    judge(n, a, want, &store, list, p.speed != speed)
 }
 
 // An accepted row of case P2.
@@ -250,19 +292,31 @@ fn shared_row(n: u64, demand: u32, allowance: u32, belief: u64, plausibility: u6
     row(n, a_and_b(SHARED_CODE), demand, allowance, ROOM, want, &P2)
 }
 
-// A refused row.
-fn refused_row(n: u64, s: Sheet, demand: u32, allowance: u32, room: usize, number: u8) -> u64
-    requires { ⌜ room ≤ storeBytes ⌝ }
+fn refusal(number: u8) -> Answer
+    ensures { λ r. ⌜ r ≡ Answer·refusal number ⌝ }
 {
-    let want = Answer {
+    Answer {
         number: number,
         total: 0,
         belief: 0,
         plausibility: 0,
         pairs: 0,
         intervals: 0,
-    };
-    row(n, s, demand, allowance, room, want, &[])
+    }
+}
+
+// A refused row.
+fn refused_row(n: u64, s: Sheet, demand: u32, allowance: u32, room: usize, number: u8) -> u64
+    requires { ⌜ room ≤ storeBytes ⌝ }
+{
+    row(n, s, demand, allowance, room, refusal(number), &[])
+}
+
+// A refused row for a speed, which is then 0.
+fn no_speed_row(n: u64, s: Sheet, target: u32, allowance: u32, room: usize, number: u8) -> u64
+    requires { ⌜ room ≤ storeBytes ⌝ }
+{
+    speed_row(n, s, target, allowance, room, 0, refusal(number), &[])
 }
 
 // P1 to P6.
@@ -285,16 +339,30 @@ fn rows_of_a_and_b(mut n: u64) -> u64 {
     row(n, spare, 0, 1000, ROOM, accepted(12, 12, 12, 4, 4), &P6)
 }
 
-// P7 to P10. Bytes 24 and 25 of the sheet of A and B have the structure.
-fn rows_of_w_and_refusals(mut n: u64) -> u64 {
+// W.
+fn sheet_w() -> Sheet
+    ensures { λ r. ⌜ r ≡ sheetOf (chain 2 W0 W1 W1 seriesCode) ⌝ }
+{
     let first = component(100, 3, [0, 4, 20], [3, 8, 67], [7, 10, 13]);
     let second = component(100, 2, [0, 6, 67], [8, 10, 33], [0; 3]);
-    let w = written(2, first, second, second, SERIES_CODE);
+    written(2, first, second, second, SERIES_CODE)
+}
+
+// A and B with another structure, in bytes 24 and 25 of their sheet.
+fn a_and_b_as(first: u8, second: u8) -> Sheet
+    ensures { λ r. ⌜ r ≡ restructured (sheetOf (chain 2 componentA componentB componentB sharedCode)) first second ⌝ }
+{
+    let mut s = a_and_b(SHARED_CODE);
+    s.bytes[24] = first;
+    s.bytes[25] = second;
+    s
+}
+
+// P7 to P10.
+fn rows_of_w_and_refusals(mut n: u64) -> u64 {
+    let w = sheet_w();
     let all = accepted(10000, 10000, 10000, 6, 4);
     let shared = a_and_b(SHARED_CODE);
-    let mut join_first = shared;
-    join_first.bytes[24] = 0x80;
-    join_first.bytes[25] = 0x10;
     io::write_all(STDOUT_FILENO, b"P7 W, demand 0");
     n = row(n, w, 0, 1000, ROOM, all, &P7);
     io::write_all(STDOUT_FILENO, b"P8 W, demand 7");
@@ -304,7 +372,7 @@ fn rows_of_w_and_refusals(mut n: u64) -> u64 {
     io::write_all(STDOUT_FILENO, b"P9 case P2, demand 3, allowance 3");
     n = refused_row(n, shared, 3, 3, ROOM, 13);
     io::write_all(STDOUT_FILENO, b"P10 structure 8 0 1");
-    refused_row(n, join_first, 0, 1000, ROOM, 11)
+    refused_row(n, a_and_b_as(0x80, 0x10), 0, 1000, ROOM, 11)
 }
 
 // The others. Byte 3 of a sheet ends the first component's T.
@@ -317,9 +385,6 @@ fn rows_of_limits(mut n: u64) -> u64 {
     let mut t_above = t;
     t_above.bytes[3] = 0xE9;
     let shared = a_and_b(SHARED_CODE);
-    let mut named_twice = shared;
-    named_twice.bytes[24] = 0x00;
-    named_twice.bytes[25] = 0x80;
     io::write_all(STDOUT_FILENO, b"D1, D2, D3 with 4, demand 0");
     n = row(n, d_with(4), 0, 1000, ROOM, all, &list);
     io::write_all(STDOUT_FILENO, b"D1, D2, D3 with 5, allowance 384");
@@ -335,11 +400,82 @@ fn rows_of_limits(mut n: u64) -> u64 {
     io::write_all(STDOUT_FILENO, b"buffer 16,383 bytes, demand 3");
     n = refused_row(n, shared, 3, 1000, ROOM - 1, 12);
     io::write_all(STDOUT_FILENO, b"structure 0 0 8");
-    refused_row(n, named_twice, 0, 1000, ROOM, 10)
+    refused_row(n, a_and_b_as(0x00, 0x80), 0, 1000, ROOM, 10)
+}
+
+// A row of W for a speed.
+fn speed_of_w(n: u64, target: u32, speed: u64, belief: u64, plausibility: u64) -> u64 {
+    let want = accepted(10000, belief, plausibility, 6, 4);
+    speed_row(n, sheet_w(), target, 1000, ROOM, speed, want, &P7)
+}
+
+// The speeds of W and of case P2, whose total is no multiple of 1,000.
+fn rows_of_speeds(mut n: u64) -> u64 {
+    let shared = a_and_b(SHARED_CODE);
+    io::write_all(STDOUT_FILENO, b"W, target 1");
+    n = speed_of_w(n, 1, 7, 429, 2640);
+    io::write_all(STDOUT_FILENO, b"W, target 42");
+    n = speed_of_w(n, 42, 7, 429, 2640);
+    io::write_all(STDOUT_FILENO, b"W, target 43");
+    n = speed_of_w(n, 43, 3, 2640, 10000);
+    io::write_all(STDOUT_FILENO, b"W, target 264");
+    n = speed_of_w(n, 264, 3, 2640, 10000);
+    io::write_all(STDOUT_FILENO, b"W, target 265");
+    n = speed_of_w(n, 265, 0, 10000, 10000);
+    io::write_all(STDOUT_FILENO, b"W, target 1,000");
+    n = speed_of_w(n, 1000, 0, 10000, 10000);
+    io::write_all(STDOUT_FILENO, b"case P2, target 750");
+    n = speed_row(
+        n,
+        shared,
+        750,
+        1000,
+        ROOM,
+        3,
+        accepted(12, 9, 10, 4, 4),
+        &P2,
+    );
+    io::write_all(STDOUT_FILENO, b"case P2, target 751");
+    speed_row(
+        n,
+        shared,
+        751,
+        1000,
+        ROOM,
+        1,
+        accepted(12, 12, 12, 4, 4),
+        &P2,
+    )
+}
+
+// The order of refusals: 11, 12, 16, then 13 and 14.
+fn rows_of_targets(mut n: u64) -> u64 {
+    let shared = a_and_b(SHARED_CODE);
+    let five = d_with(5);
+    io::write_all(
+        STDOUT_FILENO,
+        b"structure 8 0 1, target 0, buffer 16,383 bytes",
+    );
+    n = no_speed_row(n, a_and_b_as(0x80, 0x10), 0, 1000, ROOM - 1, 11);
+    io::write_all(STDOUT_FILENO, b"target 0, buffer 16,383 bytes");
+    n = no_speed_row(n, shared, 0, 1000, ROOM - 1, 12);
+    io::write_all(STDOUT_FILENO, b"target 0");
+    n = no_speed_row(n, shared, 0, 1000, ROOM, 16);
+    io::write_all(STDOUT_FILENO, b"target 1,001, allowance 3");
+    n = no_speed_row(n, shared, 1001, 3, ROOM, 16);
+    io::write_all(STDOUT_FILENO, b"target 1,000, allowance 3");
+    n = no_speed_row(n, shared, 1000, 3, ROOM, 13);
+    io::write_all(
+        STDOUT_FILENO,
+        b"D1, D2, D3 with 5, target 1,001, allowance 384",
+    );
+    n = no_speed_row(n, five, 1001, 384, ROOM, 16);
+    io::write_all(STDOUT_FILENO, b"D1, D2, D3 with 5, target 1, allowance 384");
+    no_speed_row(n, five, 1, 384, ROOM, 14)
 }
 
 fn main() {
-    let n = rows_of_w_and_refusals(rows_of_a_and_b(0));
-    print(b"rows that disagree: ", rows_of_limits(n));
+    let n = rows_of_limits(rows_of_w_and_refusals(rows_of_a_and_b(0)));
+    print(b"rows that disagree: ", rows_of_targets(rows_of_speeds(n)));
     io::write_all(STDOUT_FILENO, b"\n");
 }
