@@ -42,7 +42,7 @@ use Rattle.run.proofs.Stacked.{fits-record}
 use Rattle.evaluate.specs.declared.SheetRun.{SheetRun}
 use Rattle.evaluate.specs.Answer.{planOf, components, structure, sheetOutcomes, sheetList, callTests, evaluated, endingAt, answerOf}
 use Rattle.evaluate.specs.Store.{isLate, storeBy, storeAt}
-use Rattle.evaluate.specs.SheetRun.{numberThen, refusedRun, sheetRunOf}
+use Rattle.evaluate.specs.SheetRun.{numberThen, refusedRun, sheetRunOf, answerFrom}
 use Rattle.evaluate.specs.Speed.{targetTests}
 use Rattle.evaluate.proofs.Numbers.{tests-say, number-passed, own-passed, number-early, Ended, tested, stopped, passed, ended}
 
@@ -237,19 +237,13 @@ target-asked s target allowance store r e h = go (ended (number s own allowance 
         record { least = bounds .0; most = bounds .1; total-positive = omega (arith, positive, ap (λ (y : SheetRun). y .total) e) }
 
 -- The answer, from what is left to ask and the list's shares.
-pub answer-asked : (s : List ℕ) (demand : ℕ) (v : Evaluation Tree) (r : SheetRun) → r ≡ sheetRunOf v s → (b : Shares) → b ≡ sharesOf demand (askedList v s)
-    → record { number = r .number; total = r .total; belief = b .belief; plausibility = b .plausibility; pairs = r .pairs; intervals = r .intervals }
-    ≡ answerOf v (structure s) (components s) demand
-answer-asked s demand (refused k) r e b f =
-    λ i. record { number = e i .number; total = e i .total; belief = f i .belief; plausibility = f i .plausibility; pairs = e i .pairs; intervals = e i .intervals }
-answer-asked s demand (completed stack pairs) r e b f =
-    (λ i. record { number = e i .number; total = e i .total; belief = f i .belief; plausibility = f i .plausibility; pairs = e i .pairs; intervals = e i .intervals })
-    ∙ (λ i.
-    record {
-      number = 0;
-      total = total (components s);
-      belief = belief-collect demand (sheetOutcomes s) i;
-      plausibility = plausibility-collect demand (sheetOutcomes s) i;
-      pairs = pairs;
-      intervals = length (sheetList s);
-    })
+pub answer-asked : (s : List ℕ) (demand : ℕ) (v : Evaluation Tree) {r : SheetRun} → r ≡ sheetRunOf v s → {b : Shares} → b ≡ sharesOf demand (askedList v s)
+    → answerFrom r b ≡ answerOf v (structure s) (components s) demand
+answer-asked s demand v e f = (λ i. answerFrom (e i) (f i)) ∙ go v
+  where
+    go : (v : Evaluation Tree) → answerFrom (sheetRunOf v s) (sharesOf demand (askedList v s)) ≡ answerOf v (structure s) (components s) demand
+    go (refused k) = refl
+    go (completed stack pairs) =
+        λ i.
+        answerFrom (sheetRunOf (completed stack pairs) s)
+        (record { belief = belief-collect demand (sheetOutcomes s) i; plausibility = plausibility-collect demand (sheetOutcomes s) i })

@@ -8,6 +8,8 @@ use Rattle.theory.specs.Masses.{total}
 use Rattle.theory.specs.Structure.{Tree}
 use Rattle.theory.specs.Evaluation.{Evaluation, completed, refused}
 use Rattle.plan.specs.Tests.{firstBroken}
+use Rattle.queries.specs.declared.Shares.{Shares}
+use Rattle.evaluate.specs.declared.Answer.{Answer}
 use Rattle.evaluate.specs.declared.SheetRun.{SheetRun}
 use Rattle.evaluate.specs.Answer.{components, sheetList, callTests}
 
@@ -23,3 +25,15 @@ abbrev pub sheetRunOf : Evaluation Tree → List ℕ → SheetRun
 sheetRunOf (refused number) sheet = refusedRun number
 sheetRunOf (completed stack pairs) sheet =
     record { number = 0; total = total (components sheet); pairs = pairs; intervals = length (sheetList sheet) }
+
+-- The answer, from that and the shares of the list.
+abbrev pub answerFrom : SheetRun → Shares → Answer
+answerFrom r s =
+    record {
+      number = r .number;
+      total = r .total;
+      belief = s .belief;
+      plausibility = s .plausibility;
+      pairs = r .pairs;
+      intervals = r .intervals;
+    }

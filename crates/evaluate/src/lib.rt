@@ -8,9 +8,10 @@ ghost use Rattle.plan.specs.Valid.{Valid};
 ghost use Rattle.plan.specs.Tests.{firstBroken};
 ghost use Rattle.evaluate.specs.Answer.{testedOf, endingAt, answer};
 ghost use Rattle.evaluate.specs.Store.{isLate, storeAt, storeAfter};
-ghost use Rattle.evaluate.specs.SheetRun.{numberThen, refusedRun, sheetRunOf};
+ghost use Rattle.evaluate.specs.SheetRun.{numberThen, refusedRun, sheetRunOf, answerFrom};
 ghost use Rattle.evaluate.specs.Speed.{targetTests, promise, speedStoreAfter};
 use plan::Plan;
+use queries::Shares;
 use reading::Reading;
 use theory::THOUSANDTHS;
 
@@ -95,16 +96,30 @@ fn run_sheet(sheet: &[u8], own: u8, allowance: u32, store: &mut [u8]) -> SheetRu
         return refuse(number);
     }
     let p = t.plan;
-    let r = run::run_plan(p, allowance, store);
-    if r.number != 0 {
-        return refuse(r.number);
+    let ran = run::run_plan(p, allowance, store);
+    if ran.number != 0 {
+        return refuse(ran.number);
     }
     let u = total_of(p);
     SheetRun {
         number: 0,
         total: u,
+        pairs: ran.pairs,
+        intervals: ran.intervals,
+    }
+}
+
+// The answer, from what tests and run left to ask and the shares that were asked.
+fn answer_from(r: SheetRun, s: Shares) -> Answer
+    ensures { λ a. ⌜ a ≡ answerFrom r s ⌝ }
+{
+    Answer {
+        number: r.number,
+        total: r.total,
+        belief: s.belief,
+        plausibility: s.plausibility,
         pairs: r.pairs,
-        intervals: r.intervals,
+        intervals: r.intervals as u64,
     }
 }
 
@@ -116,14 +131,7 @@ pub fn bounds(sheet: &[u8], demand: u32, allowance: u32, store: &mut [u8]) -> An
     let r = run_sheet(sheet, 0, allowance, store);
     let n = r.intervals;
     let s = queries::shares_at(store, n, demand as u64);
-    Answer {
-        number: r.number,
-        total: r.total,
-        belief: s.belief,
-        plausibility: s.plausibility,
-        pairs: r.pairs,
-        intervals: n as u64,
-    }
+    answer_from(r, s)
 }
 
 // The number of a target: 16 unless it is 1 to 1,000.
@@ -142,15 +150,9 @@ pub fn speed(sheet: &[u8], target: u32, allowance: u32, store: &mut [u8]) -> Pro
     let n = r.intervals;
     let v = queries::speed_for(store, n, target, r.total);
     let s = queries::shares_at(store, n, v);
+    let a = answer_from(r, s);
     Promise {
-        answer: Answer {
-            number: r.number,
-            total: r.total,
-            belief: s.belief,
-            plausibility: s.plausibility,
-            pairs: r.pairs,
-            intervals: n as u64,
-        },
+        answer: a,
         speed: v,
     }
 }

@@ -71,10 +71,11 @@ pub fn speed_for(s: &[u8], n: usize, target: u32, total: u64) -> u64
         if i == 0 {
             break 0;
         }
-        i -= 1;
-        belief += records::weight_at(s, i);
+        let place = i - 1;
+        belief += records::weight_at(s, place);
         if target_met(belief, target, total) {
-            break records::key_at(s, i) / SPEED_LIMIT;
+            break records::key_at(s, place) / SPEED_LIMIT;
         }
+        i = place;
     }
 }

@@ -29,20 +29,21 @@ module _ (c : tie.After-run-sheet) where
   read : Readable (askedList (end sheet 0 (start .args .allowance) store) sheet) (c .run-sheet .result .intervals) after
   read = readable sheet 0 (start .args .allowance) store (c .run-sheet .result) after (c .run-sheet .ensures .0) (c .run-sheet .ensures .1)
 
-returns : tie.Need-returns
-returns c =
-    let r = c .before .before .before .before in
-    let a = start r .args in (
-      answer-asked (sheet r) (a .demand) (end (sheet r) 0 (a .allowance) (store r)) (r .run-sheet .result) (r .run-sheet .ensures .0)
-          (c .shares-at .result) (c .shares-at .ensures ∙ ap (sharesOf (a .demand)) (read r .list-is))
-          ∙ (ap (λ (n : ℕ). answerOf (endingAt n (sheet r) (a .allowance)) (structure (sheet r)) (components (sheet r)) (a .demand)) (number-alone (sheet r) (length (store r)))
-          ∙ sym (answer-is (sheet r) (a .demand) (a .allowance) (length (store r)))),
-      r .run-sheet .ensures .1
-          ∙ (ap (λ (n : ℕ). storeAt n (sheet r) (a .allowance) (store r)) (number-alone (sheet r) (length (store r))) ∙ sym (store-is (sheet r) (a .allowance) (store r))),
-    )
-
 shares-at-requires : tie.Need-shares-at-requires
 shares-at-requires c κs = let r = c .before .before .before in (read r .room, read r .fits)
 
+returns : tie.Need-returns
+returns c =
+    let h = c .before in
+    let r = h .before .before .before .before in
+    let a = start r .args in
+    let number = number-alone (sheet r) (length (store r)) in (
+      c .answer-from .ensures
+          ∙ (answer-asked (sheet r) (a .demand) (end (sheet r) 0 (a .allowance) (store r)) (r .run-sheet .ensures .0) (h .shares-at .ensures ∙ ap (sharesOf (a .demand)) (read r .list-is))
+          ∙ (ap (λ (n : ℕ). answerOf (endingAt n (sheet r) (a .allowance)) (structure (sheet r)) (components (sheet r)) (a .demand)) number
+          ∙ sym (answer-is (sheet r) (a .demand) (a .allowance) (length (store r))))),
+      r .run-sheet .ensures .1 ∙ (ap (λ (n : ℕ). storeAt n (sheet r) (a .allowance) (store r)) number ∙ sym (store-is (sheet r) (a .allowance) (store r))),
+    )
+
 pub bounds-spec : {M : Type 1} → statement M
-bounds-spec = tie.close (tie.spec (λ c κs. search needs) shares-at-requires (λ c. search needs) returns)
+bounds-spec = tie.close (tie.spec (λ c κs. search needs) shares-at-requires (λ c κs. search needs) (λ c. search needs) returns)

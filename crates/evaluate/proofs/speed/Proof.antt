@@ -10,9 +10,7 @@ use Rattle.theory.specs.Evaluation.{Evaluation, completed, refused}
 use Rattle.theory.specs.Limits.{thousandths}
 use Rattle.theory.specs.Speed.{speedFor}
 use Rattle.plan.specs.Tests.{firstBroken, outside}
-use Rattle.queries.specs.declared.Shares.{Shares}
 use Rattle.queries.specs.Shares.{sharesOf}
-use Rattle.evaluate.specs.declared.Promise.{Promise}
 use Rattle.evaluate.specs.declared.SheetRun.{SheetRun}
 use Rattle.evaluate.specs.Answer.{components, structure, sheetList, endingAt, answerOf}
 use Rattle.evaluate.specs.Store.{isLate, storeAt}
@@ -25,22 +23,10 @@ use Rattle.evaluate.proofs.speed.Statement.{statement}
 use Rattle.evaluate.proofs.speed.Tie as tie
 
 -- The speed, from what is left to ask and the list.
-speed-asked : (s : List ℕ) (target : ℕ) (v : Evaluation Tree) (r : SheetRun) → r ≡ sheetRunOf v s
+speed-asked : (s : List ℕ) (target : ℕ) (v : Evaluation Tree) {r : SheetRun} → r ≡ sheetRunOf v s
     → speedFor target (r .total) (askedList v s) ≡ speedBy v target (total (components s)) (sheetList s)
-speed-asked s target (refused k) r e = refl
-speed-asked s target (completed stack pairs) r e = ap (λ (y : SheetRun). speedFor target (y .total) (sheetList s)) e
-
--- All that is answered.
-promise-asked : (s : List ℕ) (target : ℕ) (v : Evaluation Tree) (r : SheetRun) → r ≡ sheetRunOf v s
-    → (w : ℕ) → w ≡ speedBy v target (total (components s)) (sheetList s) → (b : Shares) → b ≡ sharesOf w (askedList v s)
-    → record {
-      answer =
-          record { number = r .number; total = r .total; belief = b .belief; plausibility = b .plausibility; pairs = r .pairs; intervals = r .intervals };
-      speed = w;
-    } ≡ promiseOf v (structure s) (components s) target
-promise-asked s target v r e w f b g =
-    (λ i. record { answer = answer-asked s w v r e b g i; speed = w })
-    ∙ ap (λ (u : ℕ). record { answer = answerOf v (structure s) (components s) u; speed = u }) f
+speed-asked s target (refused k) e = refl
+speed-asked s target (completed stack pairs) e = ap (λ (y : SheetRun). speedFor target (y .total) (sheetList s)) e
 
 -- 16 is not late.
 early : (target : ℕ) → isLate (firstBroken (targetTests target)) ≡ false
@@ -101,19 +87,23 @@ shares-at-requires c κs = let r = c .before .before .before .before .before in 
 
 returns : tie.Need-returns
 returns c =
-    let v = c .before .before in
+    let h = c .before in
+    let v = h .before .before in
     let r = v .before .before .before .before in
     let a = start r .args in
-    let number = number-then (sheet r) (length (store r)) (targetTests (a .target)) in (
-      promise-asked (sheet r) (a .target) (ending r) (r .run-sheet .result) (ran r)
-          (v .speed-for .result)
-          (v .speed-for .ensures ∙ (ap (speedFor (a .target) (r .run-sheet .result .total)) (read r .list-is) ∙ speed-asked (sheet r) (a .target) (ending r) (r .run-sheet .result) (ran r)))
-          (c .shares-at .result) (c .shares-at .ensures ∙ ap (sharesOf (v .speed-for .result)) (read r .list-is))
+    let number = number-then (sheet r) (length (store r)) (targetTests (a .target)) in
+    let speed = v .speed-for .ensures ∙ (ap (speedFor (a .target) (r .run-sheet .result .total)) (read r .list-is) ∙ speed-asked (sheet r) (a .target) (ending r) (ran r)) in
+    let other =
+    c .answer-from .ensures
+    ∙ answer-asked (sheet r) (v .speed-for .result) (ending r) (ran r) (h .shares-at .ensures ∙ ap (sharesOf (v .speed-for .result)) (read r .list-is)) in (
+      (λ i. record { answer = other i; speed = v .speed-for .result })
+          ∙ (ap (λ (w : ℕ). record { answer = answerOf (ending r) (structure (sheet r)) (components (sheet r)) w; speed = w }) speed
           ∙ (ap (λ (n : ℕ). promiseOf (endingAt n (sheet r) (a .allowance)) (structure (sheet r)) (components (sheet r)) (a .target)) number
-          ∙ sym (promise-is (sheet r) (a .target) (a .allowance) (length (store r)))),
-      stored r
-          ∙ (ap (λ (n : ℕ). storeAt n (sheet r) (a .allowance) (store r)) number ∙ sym (speed-store-is (sheet r) (a .target) (a .allowance) (store r))),
+          ∙ sym (promise-is (sheet r) (a .target) (a .allowance) (length (store r))))),
+      stored r ∙ (ap (λ (n : ℕ). storeAt n (sheet r) (a .allowance) (store r)) number ∙ sym (speed-store-is (sheet r) (a .target) (a .allowance) (store r))),
     )
 
 pub speed-spec : {M : Type 1} → statement M
-speed-spec = tie.close (tie.spec (λ c κs. search needs) run-sheet-requires speed-for-requires shares-at-requires (λ c. search needs) returns)
+speed-spec =
+    tie.close
+    (tie.spec (λ c κs. search needs) run-sheet-requires speed-for-requires shares-at-requires (λ c κs. search needs) (λ c. search needs) returns)
