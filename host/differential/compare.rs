@@ -25,9 +25,17 @@ pub struct Comparison {
 }
 
 impl Comparison {
+    /// One case. After a difference the buffers begin anew, so that no later case finds it again.
     pub fn case(&mut self, seed: u64, case: u64) -> Outcome {
-        let random = &mut Random::of_case(seed, case);
         self.tally.cases += 1;
+        let outcome = self.drawn(&mut Random::of_case(seed, case));
+        if outcome.is_err() {
+            *self = Comparison { tally: std::mem::take(&mut self.tally), ..Default::default() };
+        }
+        outcome
+    }
+
+    fn drawn(&mut self, random: &mut Random) -> Outcome {
         match random.below(100) {
             0..=39 => self.ask(random, BOUNDS),
             40..=59 => self.ask(random, SPEED),

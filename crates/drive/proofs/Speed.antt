@@ -6,7 +6,7 @@ use native.Mathlib.Omega.{arith}
 use lib.ListN.{length, drop, length-append}
 use lib.Seq.{drop-at}
 use borrow.Author.Tests.{lt-ltb, le-ltb}
-use Rattle.numbers.specs.Numbers.{bigEndian, numberAt}
+use Rattle.numbers.specs.Numbers.{bigEndian}
 use Rattle.numbers.proofs.Numbers.{length-bigEndian, read-front, read-past}
 use Rattle.plan.proofs.Numbers.{first-in-front}
 use Rattle.evaluate.specs.declared.Promise.{Promise}

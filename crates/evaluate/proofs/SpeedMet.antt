@@ -1,5 +1,5 @@
 -- The call for a speed: the statement `SpeedMet` of specs/Demands.antt holds. Assumes nothing.
-use Prim.Native.Nat.{ℕ, zero, suc, _*_, _^_, _≤_, _<_}
+use Prim.Native.Nat.{ℕ, zero, suc, _*_, _^_, _<_}
 use mathlib.Core.Path.{_≡_, refl, sym, ap, _∙_}
 use mathlib.Core.Bool.{Bool, true, false, cond}
 use mathlib.Core.List.{List}
@@ -10,24 +10,22 @@ use lib.Dec.{eqb}
 use lib.ListN.{length}
 use borrow.Author.Tests.{ne-eqb}
 use Rattle.theory.specs.Limits.{thousandths}
-use Rattle.theory.specs.Focal.{Focal, weights}
+use Rattle.theory.specs.Focal.{weights}
 use Rattle.theory.specs.Masses.{total}
 use Rattle.theory.specs.Structure.{Tree}
-use Rattle.theory.specs.Choices.{belief}
-use Rattle.theory.specs.Speed.{Meets, Promised, speedFor}
+use Rattle.theory.specs.Speed.{Promised, speedFor}
 use Rattle.theory.specs.Evaluation.{Evaluation, completed, refused}
 use Rattle.theory.proofs.Every.{every-map, every-split}
 use Rattle.theory.proofs.Totals.{total-positive}
 use Rattle.theory.proofs.Speed.{speed-most, speed-promised, promised-one}
 use Rattle.plan.specs.Tests.{firstBroken, outside}
-use Rattle.plan.specs.declared.Plan.{Plan}
 use Rattle.plan.specs.Valid.{Valid}
 use Rattle.plan.proofs.Numbers.{none-broken}
 use Rattle.evaluate.specs.declared.Answer.{Answer}
 use Rattle.evaluate.specs.declared.Promise.{Promise}
 use Rattle.evaluate.specs.Answer.{planOf, components, structure, sheetList, callTests, endingAt, ending, answerOf, answerWith, answer}
 use Rattle.evaluate.specs.Store.{storeAt, storeAfter}
-use Rattle.evaluate.specs.Speed.{targetTests, speedTests, speedBy, promiseOf, speedStoreAfter}
+use Rattle.evaluate.specs.Speed.{targetTests, speedTests, speedBy, speedStoreAfter}
 use Rattle.evaluate.specs.Demands.{Passed, Demand-1, promised, beliefAt, SpeedMet}
 use Rattle.evaluate.proofs.Numbers.{number-then, speed-numbered, answer-is, store-is, promise-is, speed-store-is}
 use Rattle.evaluate.proofs.Finish.{drive-fits, ready, target-inside}

@@ -1,9 +1,8 @@
 -- In a list in order the lows are tried from the fastest down: the first at which the weights passed meet the target is the promised speed.
 -- Assumes nothing.
-use Prim.Native.Nat.{ℕ, zero, suc, _+_, _*_, _≤_, _<_, max}
-use mathlib.Core.Path.{_≡_, refl, sym, ap, _∙_}
+use Prim.Native.Nat.{ℕ, zero, suc, _+_, _*_, _≤_, _<_}
+use mathlib.Core.Path.{_≡_, refl, sym, ap}
 use mathlib.Core.Bool.{Bool, true, false, cond}
-use mathlib.Core.Logic.{_⊎_, inl, inr}
 use mathlib.Core.List.{List, [], _∷_}
 use native.Mathlib.Nat.{le-refl, le-of-eq, le-antisymm}
 use native.Mathlib.Omega.{arith}
@@ -14,7 +13,7 @@ use Rattle.theory.specs.Limits.{thousandths}
 use Rattle.theory.specs.Sums.{greatestBy, Every}
 use Rattle.theory.specs.Focal.{Focal, noFocal, weights}
 use Rattle.theory.specs.Choices.{belief}
-use Rattle.theory.specs.Order.{Before, InOrder}
+use Rattle.theory.specs.Order.{InOrder}
 use Rattle.theory.specs.Speed.{Meets, meets, Promised, speedFor}
 use Rattle.theory.proofs.Every.{every-map, every-all, index-of-every}
 use Rattle.theory.proofs.Order.{before-low}

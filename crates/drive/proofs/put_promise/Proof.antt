@@ -1,5 +1,5 @@
 -- `drive::put_promise` meets its contract: the speed goes behind the answer. Assumes nothing.
-use mathlib.Core.Path.{refl, sym}
+use mathlib.Core.Path.{refl}
 use native.Mathlib.Omega.{arith}
 use Rattle.numbers.specs.Numbers.{bigEndian}
 use Rattle.numbers.proofs.Numbers.{Placed, placed-next}

@@ -1,6 +1,6 @@
 -- `evaluate::bounds` meets its contract: tests and run, and the shares of the list. Assumes nothing.
 use Prim.Native.Nat.{ℕ}
-use mathlib.Core.Path.{_≡_, sym, ap, _∙_}
+use mathlib.Core.Path.{sym, ap, _∙_}
 use mathlib.Core.List.{List}
 use lib.ListN.{length}
 use Rattle.queries.specs.Shares.{sharesOf}

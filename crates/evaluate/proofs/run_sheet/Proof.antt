@@ -8,10 +8,9 @@ use lib.ListN.{length}
 use Rattle.theory.specs.Masses.{total}
 use Rattle.plan.specs.declared.Plan.{Plan}
 use Rattle.reading.specs.declared.Reading.{Reading}
-use Rattle.plan.specs.Tests.{firstBroken}
 use Rattle.plan.specs.Plan.{componentsOf}
 use Rattle.run.specs.Run.{needed, walked, ranOf, storeOf, Runnable}
-use Rattle.evaluate.specs.Answer.{planOf, callTests}
+use Rattle.evaluate.specs.Answer.{planOf}
 use Rattle.evaluate.specs.SheetRun.{numberThen}
 use Rattle.evaluate.proofs.Numbers.{tested-is, number-passed}
 use Rattle.evaluate.proofs.Finish.{tested-call, ready, Finished, finish}

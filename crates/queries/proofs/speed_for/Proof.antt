@@ -2,18 +2,18 @@
 -- target. Assumes nothing.
 use mathlib.Core.Path.{_≡_, refl, sym, ap, _∙_}
 use mathlib.Core.List.{List}
-use Prim.Native.Nat.{ℕ, zero, suc, _+_, _-_, _*_, _/_, _≤_, _<_}
+use Prim.Native.Nat.{ℕ, zero, suc, _+_, _-_, _*_, _≤_, _<_}
 use native.Mathlib.Nat.{mul-pos}
 use native.Mathlib.Numerals.{add-one}
 use native.Mathlib.Omega.{arith}
-use lib.ListN.{length, drop, getD}
+use lib.ListN.{drop}
 use borrow.Author.Tests.{leb-true, leb-false}
 use Rattle.theory.specs.Limits.{thousandths}
 use Rattle.theory.specs.Focal.{Focal, weights}
 use Rattle.theory.specs.Speed.{Meets, meets, speedFor}
 use Rattle.theory.proofs.Sums.{sum-drop}
 use Rattle.theory.proofs.Speed.{Found, found-speed, no-speed}
-use Rattle.records.specs.Records.{recordAt, records, speedLimit}
+use Rattle.records.specs.Records.{recordAt, records}
 use Rattle.records.proofs.Records.{key-ends, length-records, records-at, records-next, records-end, record-under}
 use Rattle.queries.specs.Speed.{Asked}
 use Rattle.queries.proofs.speed_for.Statement.{statement}

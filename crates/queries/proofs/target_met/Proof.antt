@@ -1,5 +1,5 @@
 -- `queries::target_met` meets its contract: the product of target and total by quotient and rest of the total. Assumes nothing.
-use Prim.Native.Nat.{ℕ, _+_, _*_, _/_, _%_, _≤_, _<_}
+use Prim.Native.Nat.{ℕ, _+_, _*_, _/_, _%_, _≤_}
 use mathlib.Core.Path.{_≡_, refl, ap, _∙_}
 use mathlib.Core.Bool.{Bool, true, false}
 use native.Mathlib.Nat.{mul-add, mul-left-comm, mul-le-mul-right}
