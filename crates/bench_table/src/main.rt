@@ -1,8 +1,8 @@
-// Runs every row of the bench table: plans are written as sheets, and the answer of each call and its list, record by record, are compared
+// Runs every row of the bench table, and rows of its own for the call for a speed: plans are written as sheets, and the answer of each call and its list, record by record, are compared
 // with the table's. Prints a line for each row, and how many rows disagree. What is printed is open in the contracts of the functions that
 // print, and so is the count of rows that they hand on; every other function says what it answers.
 use evaluate::Answer;
-use evaluate::Promise;
+use evaluate::SpeedAnswer;
 use libc::STDOUT_FILENO;
 use plan::Plan;
 use plan::SERIES_CODE;
@@ -16,7 +16,7 @@ ghost use Rattle.theory.specs.Limits.{mostIntervals, storeBytes};
 ghost use Rattle.plan.specs.Plan.{seriesCode, sharedCode};
 ghost use Rattle.evaluate.specs.Answer.{answer, refusal as Answer·refusal};
 ghost use Rattle.evaluate.specs.Store.{storeAfter};
-ghost use Rattle.evaluate.specs.Speed.{promise, speedStoreAfter};
+ghost use Rattle.evaluate.specs.Speed.{speedAnswer, speedStoreAfter};
 ghost use Rattle.evaluate.specs.Bench.{accepted as Bench·accepted};
 ghost use Rattle.bench_table.specs.Rows.{componentOf, singleSpeeds, componentA, componentB, W0, W1, D1, D2, D3, chain, sheetOf, restructured};
 ghost use Rattle.bench_table.specs.Rows.{bytesOf, answersDiffer, recordDiffers, listDiffers, speedsBelow};
@@ -138,8 +138,8 @@ fn answered(s: Sheet, demand: u32, allowance: u32, store: &mut [u8]) -> Answer
 }
 
 // The call for a speed on a sheet and a store of any length.
-fn promised(s: Sheet, target: u32, allowance: u32, store: &mut [u8]) -> Promise
-    ensures { λ r. ⌜ r ≡ promise (bytesOf s) target allowance (length (now (store .entry))) ⌝ }
+fn speed_answered(s: Sheet, target: u32, allowance: u32, store: &mut [u8]) -> SpeedAnswer
+    ensures { λ r. ⌜ r ≡ speedAnswer (bytesOf s) target allowance (length (now (store .entry))) ⌝ }
     ensures { λ _. ⌜ now (store .exit) ≡ speedStoreAfter (bytesOf s) target allowance (now (store .entry)) ⌝ }
 {
     let bytes = s.bytes;
@@ -230,8 +230,8 @@ fn every_speed() -> [u64; 3 * theory::MOST_INTERVALS]
     list
 }
 
-// Prints an answer, its list, and whether both agree with the table, where nothing else is `wrong`. Answers how many rows disagree, n
-// before this one.
+// Prints an answer, its list, and whether both agree with the table; `wrong` says that something else does not. Answers how many rows
+// disagree, n before this one.
 fn judge(n: u64, a: Answer, want: Answer, store: &[u8; ROOM], list: &[u64], wrong: bool) -> u64
     requires { ⌜ length (now list) ≤ 3 * mostIntervals ⌝ }
 {
@@ -280,7 +280,7 @@ fn speed_row(
     requires { ⌜ (room ≤ storeBytes) × (length (now list) ≤ 3 * mostIntervals) ⌝ }
 {
     let mut store = [0u8; ROOM];
-    let p = promised(s, target, allowance, &mut store[0..room]);
+    let p = speed_answered(s, target, allowance, &mut store[0..room]);
     let a = p.answer;
     print(b": speed ", p.speed);
     judge(n, a, want, &store, list, p.speed != speed)
@@ -449,7 +449,7 @@ fn rows_of_speeds(mut n: u64) -> u64 {
 }
 
 // The order of refusals: 11, 12, 16, then 13 and 14.
-fn rows_of_targets(mut n: u64) -> u64 {
+fn rows_of_refused_speeds(mut n: u64) -> u64 {
     let shared = a_and_b(SHARED_CODE);
     let five = d_with(5);
     io::write_all(
@@ -476,6 +476,9 @@ fn rows_of_targets(mut n: u64) -> u64 {
 
 fn main() {
     let n = rows_of_limits(rows_of_w_and_refusals(rows_of_a_and_b(0)));
-    print(b"rows that disagree: ", rows_of_targets(rows_of_speeds(n)));
+    print(
+        b"rows that disagree: ",
+        rows_of_refused_speeds(rows_of_speeds(n)),
+    );
     io::write_all(STDOUT_FILENO, b"\n");
 }

@@ -1,4 +1,4 @@
--- "pass only numbers and byte slices": the call for C hosts, with a list buffer and an answer buffer. Assumes nothing.
+-- "pass only numbers and byte slices": the calls for C hosts with a list buffer and an answer buffer, and the ordinary call. Assumes nothing.
 use Prim.Native.Nat.{ℕ, _^_, _≤_, _<_}
 use mathlib.Core.Path.{_≡_}
 use mathlib.Core.Bool.{cond}
@@ -22,7 +22,7 @@ unfoldable pub encodeAnswer : Answer → List ℕ
 encodeAnswer a =
     bigEndian 8 (a .total) ++ (bigEndian 8 (a .belief) ++ (bigEndian 8 (a .plausibility) ++ (bigEndian 8 (a .pairs) ++ bigEndian 8 (a .intervals))))
 
--- Every call has a list buffer and an answer buffer, in which its answers take `size` bytes. The bytes of the list buffer that count: none
+-- The ordinary call and that for a speed have a list buffer and an answer buffer, in which their answers take `size` bytes. The bytes of the list buffer that count: none
 -- where the answer buffer is too short, so that the number is 12 unless one of 1 to 11 applies.
 abbrev pub room : ℕ → List ℕ → List ℕ → ℕ
 room size list buffer = cond (ltb (length buffer) size) 0 (length list)
@@ -35,7 +35,7 @@ listBy size list buffer after = cond (ltb (length buffer) size) list after
 abbrev pub answersBy : ℕ → List ℕ → List ℕ → List ℕ
 answersBy size buffer bytes = cond (ltb (length buffer) size) buffer (bytes ++ drop size buffer)
 
--- The call at a demand: the number returned, the list buffer and the answer buffer afterwards.
+-- The ordinary call: the number returned, the list buffer and the answer buffer afterwards.
 abbrev pub called : List ℕ → ℕ → ℕ → List ℕ → List ℕ → Answer
 called sheet demand allowance list buffer = answer sheet demand allowance (room answerBytes list buffer)
 
@@ -48,7 +48,7 @@ listAfter sheet allowance list buffer = listBy answerBytes list buffer (storeAft
 unfoldable pub answerAfter : List ℕ → ℕ → ℕ → List ℕ → List ℕ → List ℕ
 answerAfter sheet demand allowance list buffer = answersBy answerBytes buffer (encodeAnswer (called sheet demand allowance list buffer))
 
--- "If that has fewer than 40 bytes, it and the list buffer stay unchanged and the number is 12, unless one of 1 to 11 applies."
+-- With 48 for 40 where a speed is asked: "If that has fewer than 40 bytes, it and the list buffer stay unchanged and the number is 12, unless one of 1 to 11 applies."
 pub record TooShort (sheet : List ℕ) (number : ℕ) (list listThen buffer bufferThen : List ℕ) : Type 0 where
   pub answer-unchanged : bufferThen ≡ buffer
   pub list-unchanged : listThen ≡ list

@@ -5,15 +5,15 @@ ghost use mathlib.Core.List.{_++_};
 ghost use Prim.Native.Nat.{_≤_};
 ghost use lib.ListN.{length, drop};
 ghost use Rattle.drive.specs.Call.{answerBytes, encodeAnswer, numberReturned, listAfter, answerAfter};
-ghost use Rattle.drive.specs.Speed.{promiseBytes, encodePromise, speedNumber, speedListAfter, speedAnswerAfter};
+ghost use Rattle.drive.specs.Speed.{speedAnswerBytes, encodeSpeedAnswer, speedNumber, speedListAfter, speedAnswerAfter};
 ghost use Rattle.drive.specs.Sheets.{writeNumber, sheetAfter, lengthAfter, readNumber, planAfter};
 use evaluate::Answer;
-use evaluate::Promise;
+use evaluate::SpeedAnswer;
 
 // The bytes that an answer takes, those of an answer with a speed, and those of the length that the writer answers.
 const ANSWER_BYTES: usize = 40;
 
-const PROMISE_BYTES: usize = 48;
+const SPEED_ANSWER_BYTES: usize = 48;
 
 const LENGTH_BYTES: usize = 8;
 
@@ -52,9 +52,9 @@ pub extern "C" fn drive_bounds(
 }
 
 // Writes an answer and its speed at the front of a buffer that holds them.
-fn put_promise(p: Promise, buffer: &mut [u8])
-    requires { ⌜ promiseBytes ≤ length (now buffer) ⌝ }
-    ensures { λ _. ⌜ now (buffer .exit) ≡ encodePromise p ++ drop promiseBytes (now (buffer .entry)) ⌝ }
+fn put_speed_answer(p: SpeedAnswer, buffer: &mut [u8])
+    requires { ⌜ speedAnswerBytes ≤ length (now buffer) ⌝ }
+    ensures { λ _. ⌜ now (buffer .exit) ≡ encodeSpeedAnswer p ++ drop speedAnswerBytes (now (buffer .entry)) ⌝ }
 {
     let a = p.answer;
     put_answer(a, buffer);
@@ -74,12 +74,12 @@ pub extern "C" fn drive_speed(
     ensures { λ _. ⌜ now (list .exit) ≡ speedListAfter (now (sheet .entry)) target allowance (now (list .entry)) (now (answer .entry)) ⌝ }
     ensures { λ _. ⌜ now (answer .exit) ≡ speedAnswerAfter (now (sheet .entry)) target allowance (now (list .entry)) (now (answer .entry)) ⌝ }
 {
-    if answer.len() < PROMISE_BYTES {
+    if answer.len() < SPEED_ANSWER_BYTES {
         let p = evaluate::speed(sheet, target, allowance, &mut list[0..0]);
         return p.answer.number as u32;
     }
     let p = evaluate::speed(sheet, target, allowance, list);
-    put_promise(p, answer);
+    put_speed_answer(p, answer);
     p.answer.number as u32
 }
 

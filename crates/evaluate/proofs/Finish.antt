@@ -25,12 +25,14 @@ use Rattle.theory.proofs.Totals.{fits-drive, total-positive}
 use Rattle.queries.specs.declared.Shares.{Shares}
 use Rattle.records.specs.Records.{records, Storable}
 use Rattle.queries.specs.Shares.{sharesOf}
-use Rattle.queries.specs.Speed.{Asked}
+use Rattle.queries.specs.Speed.{ValidTarget}
 use Rattle.records.proofs.Records.{length-encode}
 use Rattle.records.specs.Store.{settled}
 use Rattle.records.proofs.Store.{settled-list}
 use Rattle.plan.specs.declared.Plan.{Plan}
-use Rattle.plan.specs.Tests.{firstBroken, outside}
+use Rattle.theory.specs.Sums.{Every}
+use Rattle.plan.specs.Tests.{firstBroken, Unbroken}
+use Rattle.plan.proofs.Numbers.{no-number}
 use Rattle.plan.proofs.Tests.{within as within-bounds}
 use Rattle.plan.specs.Plan.{componentsOf, entriesOf}
 use Rattle.plan.specs.Valid.{Valid}
@@ -40,9 +42,9 @@ use Rattle.run.specs.Run.{needed, walked, ranOf, storeOf, Runnable}
 use Rattle.plan.proofs.Entries.{components-count}
 use Rattle.run.proofs.Stacked.{fits-record}
 use Rattle.evaluate.specs.declared.SheetRun.{SheetRun}
-use Rattle.evaluate.specs.Answer.{planOf, components, structure, sheetOutcomes, sheetList, callTests, evaluated, endingAt, answerOf}
-use Rattle.evaluate.specs.Store.{isLate, storeBy, storeAt}
-use Rattle.evaluate.specs.SheetRun.{numberThen, refusedRun, sheetRunOf, answerFrom}
+use Rattle.evaluate.specs.Answer.{planOf, components, structure, sheetOutcomes, sheetList, callTests, evaluated, answerOf}
+use Rattle.evaluate.specs.Store.{isLate, storeBy}
+use Rattle.evaluate.specs.SheetRun.{numberThen, refusedRun, sheetRunOf, answerFrom, endingAt, storeAt}
 use Rattle.evaluate.specs.Speed.{targetTests}
 use Rattle.evaluate.proofs.Numbers.{tests-say, number-passed, own-passed, number-early, Ended, tested, stopped, passed, ended}
 
@@ -173,13 +175,9 @@ module _ (s : List ℕ) (own allowance : ℕ) (store : List ℕ) where
 
 -- ---- what is asked of the list
 
--- A target without a number is 1 to 1,000.
-pub target-inside : (target : ℕ) → firstBroken (targetTests target) ≡ 0 → (1 ≤ target) × (target ≤ thousandths)
-target-inside target e = within-bounds 1 thousandths target (go (outside 1 thousandths target) e)
-  where
-    go : (b : Bool) → _≡_ {A = ℕ} (cond b 16 0) 0 → b ≡ false
-    go true e = absurd (omega arith)
-    go false e = refl
+-- A target whose test is not broken is 1 to 1,000.
+pub target-inside : {target : ℕ} → Every Unbroken (targetTests target) → (1 ≤ target) × (target ≤ thousandths)
+target-inside {target} (Every.more e r) = within-bounds 1 thousandths target e
 
 -- The list that is asked: the drive's, or none.
 abbrev pub askedList : Evaluation Tree → List ℕ → List Focal
@@ -221,17 +219,17 @@ module _ (s : List ℕ) (own allowance : ℕ) (store : List ℕ) where
 
 -- A list that is not empty is asked with a target of 1 to 1,000 and a total above 0.
 pub target-asked : (s : List ℕ) (target allowance : ℕ) (store : List ℕ) → let own : ℕ = firstBroken (targetTests target) in
-    (r : SheetRun) → r ≡ sheetRunOf (end s own allowance store) s → 0 < r .intervals → Asked target (r .total)
+    (r : SheetRun) → r ≡ sheetRunOf (end s own allowance store) s → 0 < r .intervals → ValidTarget target (r .total)
 target-asked s target allowance store r e h = go (ended (number s own allowance store) s allowance) e
   where
     own : ℕ
     own = firstBroken (targetTests target)
 
-    go : {v : Evaluation Tree} → Ended (number s own allowance store) s allowance v → r ≡ sheetRunOf v s → Asked target (r .total)
+    go : {v : Evaluation Tree} → Ended (number s own allowance store) s allowance v → r ≡ sheetRunOf v s → ValidTarget target (r .total)
     go (tested k z) e = absurd (omega (arith, ap (λ (y : SheetRun). y .intervals) e))
     go (stopped z l q) e = absurd (omega (arith, ap (λ (y : SheetRun). y .intervals) e))
     go (passed z q) e =
-        let bounds = target-inside target (own-passed s (length store) own z) in
+        let bounds = target-inside (no-number 16 (targetTests target) refl (own-passed s (length store) own z)) in
         let valid = ready s store (number-passed s (length store) own z) .valid in
         let positive = total-positive (every-map (λ c t. t .0) (valid .totals)) in
         record { least = bounds .0; most = bounds .1; total-positive = omega (arith, positive, ap (λ (y : SheetRun). y .total) e) }

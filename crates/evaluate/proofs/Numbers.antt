@@ -19,10 +19,10 @@ use Rattle.reading.specs.Reading.{sheetTests, readOf}
 use Rattle.reading.proofs.Decided.{read-number}
 use Rattle.plan.proofs.Numbers.{no-number, number-never, first-found, first-none, first-then}
 use Rattle.run.specs.Run.{needed}
-use Rattle.evaluate.specs.Answer.{planOf, components, structure, callTests, testedOf, evaluated, testedFirst, endingAt, ending, answerWith, answer}
+use Rattle.evaluate.specs.Answer.{planOf, components, structure, callTests, testedOf, evaluated, testedFirst, ending, answerWith, answer}
 use Rattle.evaluate.specs.Store.{isLate, storeWith, storeAfter}
-use Rattle.evaluate.specs.SheetRun.{numberThen}
-use Rattle.evaluate.specs.Speed.{speedTests, promiseOf, promise, speedStoreAfter}
+use Rattle.evaluate.specs.SheetRun.{numberThen, endingAt}
+use Rattle.evaluate.specs.Speed.{speedTests, speedAnswerOf, speedAnswer, speedStoreAfter}
 
 -- The tests of a call.
 module _ (s : List ℕ) (room : ℕ) where
@@ -73,9 +73,9 @@ pub record Numbered (tests : List Test) : Type 0 where
   pub kept : firstBroken tests ≡ 0 → Every Unbroken tests
   pub early : isLate (firstBroken tests) ≡ false
 
--- It is seen by two tests of all numbers.
-numbered-by : (tests : List Test) → anyOf (λ t. outside 1 16 (t .number)) tests ≡ false → anyOf (λ t. isLate (t .number)) tests ≡ false → Numbered tests
-numbered-by tests e f = record { kept = no-number 16 tests e; early = number-never isLate refl tests f }
+-- It is seen by two tests of all numbers. (27 is the last number of document 02.)
+numbered-by : (tests : List Test) → anyOf (λ t. outside 1 27 (t .number)) tests ≡ false → anyOf (λ t. isLate (t .number)) tests ≡ false → Numbered tests
+numbered-by tests e f = record { kept = no-number 27 tests e; early = number-never isLate refl tests f }
 
 pub call-numbered : (s : List ℕ) (room : ℕ) → Numbered (callTests s room)
 call-numbered s room = numbered-by (callTests s room) refl refl
@@ -132,10 +132,10 @@ pub store-is : (s : List ℕ) (allowance : ℕ) (store : List ℕ) → storeAfte
 unfolding storeAfter
 store-is s allowance store = refl
 
-pub promise-is : (s : List ℕ) (target allowance room : ℕ)
-    → promise s target allowance room ≡ promiseOf (ending (speedTests s target room) s allowance) (structure s) (components s) target
-unfolding promise
-promise-is s target allowance room = refl
+pub speed-answer-is : (s : List ℕ) (target allowance room : ℕ)
+    → speedAnswer s target allowance room ≡ speedAnswerOf (ending (speedTests s target room) s allowance) (structure s) (components s) target
+unfolding speedAnswer
+speed-answer-is s target allowance room = refl
 
 pub speed-store-is : (s : List ℕ) (target allowance : ℕ) (store : List ℕ)
     → speedStoreAfter s target allowance store ≡ storeWith (speedTests s target (length store)) s allowance store

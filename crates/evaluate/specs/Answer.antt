@@ -1,4 +1,4 @@
--- What a call answers: in general, by its tests, and on a sheet, a demand and an allowance. Assumes nothing.
+-- What a call answers: in general, by its tests; and the ordinary call, on a sheet, a demand and an allowance. Assumes nothing.
 use Prim.Native.Nat.{ℕ, zero, suc}
 use mathlib.Core.List.{List, [], _∷_, _++_}
 use lib.Dec.{ltb}
@@ -36,7 +36,7 @@ sheetOutcomes sheet = outcomes (structure sheet) (components sheet)
 abbrev pub sheetList : List ℕ → List Focal
 sheetList sheet = driveList (structure sheet) (components sheet)
 
--- The tests of a call: 1 to 11 by the sheet; then 12, the store of `room` bytes has fewer than the plan needs.
+-- The tests that every call has first: 1 to 11 by the sheet; then 12, the store of `room` bytes has fewer than the plan needs.
 abbrev pub callTests : List ℕ → ℕ → List Test
 callTests sheet room = sheetTests sheet ++ (test 12 (ltb room (needed (planOf sheet))) ∷ [])
 
@@ -53,12 +53,9 @@ abbrev pub testedFirst : {A : Type 0} → ℕ → Evaluation A → Evaluation A
 testedFirst zero run = run
 testedFirst (suc k) run = refused (suc k)
 
--- What a call ends in, by the number of its tests, and by the tests: the first that is broken decides.
-abbrev pub endingAt : ℕ → List ℕ → ℕ → Evaluation Tree
-endingAt number sheet allowance = testedFirst number (evaluated sheet allowance)
-
+-- What a call with these tests ends in: the first that is broken decides.
 abbrev pub ending : List Test → List ℕ → ℕ → Evaluation Tree
-ending tests sheet allowance = endingAt (firstBroken tests) sheet allowance
+ending tests sheet allowance = testedFirst (firstBroken tests) (evaluated sheet allowance)
 
 -- A refusal answers its number and zeros.
 abbrev pub refusal : ℕ → Answer
@@ -81,6 +78,6 @@ answerOf (completed stack pairs) es cs demand =
 abbrev pub answerWith : List Test → List ℕ → ℕ → ℕ → Answer
 answerWith tests sheet demand allowance = answerOf (ending tests sheet allowance) (structure sheet) (components sheet) demand
 
--- The answer for a sheet, a demand, an allowance and a store of `room` bytes.
+-- The ordinary call: the answer for a sheet, a demand, an allowance and a store of `room` bytes.
 unfoldable pub answer : List ℕ → ℕ → ℕ → ℕ → Answer
 answer sheet demand allowance room = answerWith (callTests sheet room) sheet demand allowance

@@ -1,4 +1,4 @@
--- The three demands, as statements about what the contracts of the calls, the reader and the writer name: `answer`, `storeAfter`, `promise`,
+-- The three demands, as statements about what the contracts of the calls, the reader and the writer name: `answer`, `storeAfter`, `speedAnswer`,
 -- `speedStoreAfter`, `readOf`, `writtenOf`, `bytesAfter`. They are proved in proofs/Demands.antt and proofs/SpeedMet.antt; what the reader
 -- decides by itself is reading's `Decided`. Assumes nothing.
 use Prim.Native.Nat.{ℕ, _^_, _≤_, _<_}
@@ -15,8 +15,8 @@ use Rattle.theory.specs.Order.{InOrder}
 use Rattle.theory.specs.Lists.{listOf, totalOf}
 use Rattle.theory.specs.Evaluation.{pairCount, completed, refused}
 use Rattle.theory.specs.Bounds.{Bounds}
-use Rattle.theory.specs.Speed.{Promised}
-use Rattle.theory.specs.Limits.{mostTotal, mostComponents}
+use Rattle.theory.specs.Speed.{GreatestDemand}
+use Rattle.theory.specs.Limits.{mostTotal, mostComponents, thousandths}
 use Rattle.numbers.specs.Numbers.{Bytes}
 use Rattle.records.specs.Records.{records}
 use Rattle.plan.specs.declared.Plan.{Plan}
@@ -30,8 +30,8 @@ use Rattle.run.specs.Run.{needed, cleared}
 use Rattle.evaluate.specs.declared.Answer.{Answer}
 use Rattle.evaluate.specs.Answer.{planOf, components, structure, sheetOutcomes, sheetList, callTests, evaluated, refusal, answer}
 use Rattle.evaluate.specs.Store.{storeAfter}
-use Rattle.evaluate.specs.declared.Promise.{Promise}
-use Rattle.evaluate.specs.Speed.{speedTests, promise, speedStoreAfter}
+use Rattle.evaluate.specs.declared.SpeedAnswer.{SpeedAnswer}
+use Rattle.evaluate.specs.Speed.{speedTests, speedAnswer, speedStoreAfter}
 
 -- No rule is broken: none of a call's tests, and the plan runs past every join without 13 or 14.
 pub record Passed (tests : List Test) (s : List ℕ) (allowance : ℕ) : Type 0 where
@@ -58,7 +58,7 @@ module _ (tests : List Test) (s : List ℕ) (allowance : ℕ) (answered : Answer
     pub store-late : (k : ℕ) → (k ≡ 13) ⊎ (k ≡ 14) → answered .number ≡ k → after ≡ cleared (needed (planOf s)) store
     pub store-kept : (k : ℕ) → 0 < k → (k ≡ 13 → ⊥) → (k ≡ 14 → ⊥) → answered .number ≡ k → after ≡ store
 
--- A call on the sheet s.
+-- An ordinary call on the sheet s.
 module _ (s : List ℕ) (demand allowance : ℕ) (store : List ℕ) where
   -- Its answer at a demand d, and at the one asked for.
   abbrev pub answerAt : ℕ → Answer
@@ -108,24 +108,28 @@ module _ (s : List ℕ) (demand allowance : ℕ) (store : List ℕ) where
 
 -- A call for a speed on the sheet s.
 module _ (s : List ℕ) (target allowance : ℕ) (store : List ℕ) where
-  abbrev pub promised : Promise
-  promised = promise s target allowance (length store)
+  abbrev pub speedAnswered : SpeedAnswer
+  speedAnswered = speedAnswer s target allowance (length store)
 
   -- Belief as a function of the demand, by the ordinary call.
   abbrev pub beliefAt : ℕ → ℕ
   beliefAt d = (answer s d allowance (length store)) .belief
 
   pub record SpeedMet : Type 0 where
-    -- Demand 1, with 16 behind 12. A refused call's speed is 0.
-    pub first : Demand-1 (speedTests s target (length store)) s allowance (promised .answer) store (speedStoreAfter s target allowance store)
-    pub speed-zero : (k : ℕ) → 0 < k → promised .answer .number ≡ k → promised .speed ≡ 0
+    -- Demand 1, with 16 behind 12: it says that no test of an ordinary call is broken and the target is not 1 to 1,000. A refused call's
+    -- speed is 0.
+    pub first : Demand-1 (speedTests s target (length store)) s allowance (speedAnswered .answer) store (speedStoreAfter s target allowance store)
+    pub sixteen : (speedAnswered .answer .number ≡ 16) ↔ (Every Unbroken (callTests s (length store)) × ((target < 1) ⊎ (thousandths < target)))
+    pub speed-zero : (k : ℕ) → 0 < k → speedAnswered .answer .number ≡ k → speedAnswered .speed ≡ 0
     -- But for 16 the other answers and the store are those of an ordinary call with that speed as its demand: where it is accepted,
     -- demands 2 and 3 hold of them.
-    pub as-ordinary : (promised .answer .number ≡ 16 → ⊥) → promised .answer ≡ answer s (promised .speed) allowance (length store)
-    pub store-as-ordinary : (promised .answer .number ≡ 16 → ⊥) → speedStoreAfter s target allowance store ≡ storeAfter s allowance store
+    pub as-ordinary : (speedAnswered .answer .number ≡ 16 → ⊥) → speedAnswered .answer ≡ answer s (speedAnswered .speed) allowance (length store)
+    pub store-as-ordinary : (speedAnswered .answer .number ≡ 16 → ⊥) → speedStoreAfter s target allowance store ≡ storeAfter s allowance store
     -- The speed of an accepted call is the greatest of all demands that meet the target, and no other number is.
-    pub greatest : promised .answer .number ≡ 0 → Promised target (promised .answer .total) beliefAt (promised .speed)
-    pub no-other : promised .answer .number ≡ 0 → (v : ℕ) → Promised target (promised .answer .total) beliefAt v → v ≡ promised .speed
+    pub greatest : speedAnswered .answer .number ≡ 0 → GreatestDemand target (speedAnswered .answer .total) beliefAt (speedAnswered .speed)
+    pub no-other : speedAnswered .answer .number ≡ 0 → (v : ℕ) → GreatestDemand target (speedAnswered .answer .total) beliefAt v → v ≡ speedAnswered .speed
+    -- It is a demand that a call can have: it fits 32 bits.
+    pub speed-fits : speedAnswered .speed < 2 ^ 32
 
 -- Demand 1 for the writer, for every plan and buffer: its tests decide in the same way; refused it writes nothing, accepted it leaves the
 -- bytes behind the sheet; no sheet is longer than 224 bytes, and unused places are ignored.

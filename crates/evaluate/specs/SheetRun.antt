@@ -1,4 +1,4 @@
--- What tests and run leave to ask, in every call. Assumes nothing.
+-- What tests and run answer in every call, before the list is asked. Assumes nothing.
 use Prim.Native.Nat.{ℕ}
 use mathlib.Core.Bool.{cond}
 use mathlib.Core.List.{List}
@@ -11,7 +11,9 @@ use Rattle.plan.specs.Tests.{firstBroken}
 use Rattle.queries.specs.declared.Shares.{Shares}
 use Rattle.evaluate.specs.declared.Answer.{Answer}
 use Rattle.evaluate.specs.declared.SheetRun.{SheetRun}
-use Rattle.evaluate.specs.Answer.{components, sheetList, callTests}
+use Rattle.run.specs.Run.{needed}
+use Rattle.evaluate.specs.Answer.{planOf, components, sheetList, callTests, evaluated, testedFirst}
+use Rattle.evaluate.specs.Store.{storeBy}
 
 -- The number of a call's tests: 1 to 12, then `own`, the number of its own tests.
 abbrev pub numberThen : List ℕ → ℕ → ℕ → ℕ
@@ -25,6 +27,20 @@ abbrev pub sheetRunOf : Evaluation Tree → List ℕ → SheetRun
 sheetRunOf (refused number) sheet = refusedRun number
 sheetRunOf (completed stack pairs) sheet =
     record { number = 0; total = total (components sheet); pairs = pairs; intervals = length (sheetList sheet) }
+
+-- What a call ends in, and the store after it, by the number of its tests.
+abbrev pub endingAt : ℕ → List ℕ → ℕ → Evaluation Tree
+endingAt number sheet allowance = testedFirst number (evaluated sheet allowance)
+
+abbrev pub storeAt : ℕ → List ℕ → ℕ → List ℕ → List ℕ
+storeAt number sheet allowance store = storeBy (endingAt number sheet allowance) (needed (planOf sheet)) (sheetList sheet) store
+
+-- Tests and run of a call whose own tests have the number `own`: what they answer, and the store after them.
+abbrev pub sheetRun : List ℕ → ℕ → ℕ → ℕ → SheetRun
+sheetRun sheet room own allowance = sheetRunOf (endingAt (numberThen sheet room own) sheet allowance) sheet
+
+abbrev pub storeThen : List ℕ → ℕ → ℕ → List ℕ → List ℕ
+storeThen sheet own allowance store = storeAt (numberThen sheet (length store) own) sheet allowance store
 
 -- The answer, from that and the shares of the list.
 abbrev pub answerFrom : SheetRun → Shares → Answer

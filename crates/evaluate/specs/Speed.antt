@@ -12,7 +12,7 @@ use Rattle.theory.specs.Lists.{driveList}
 use Rattle.theory.specs.Speed.{speedFor}
 use Rattle.theory.specs.Evaluation.{Evaluation, completed, refused}
 use Rattle.plan.specs.Tests.{Test, test, outside}
-use Rattle.evaluate.specs.declared.Promise.{Promise}
+use Rattle.evaluate.specs.declared.SpeedAnswer.{SpeedAnswer}
 use Rattle.evaluate.specs.Answer.{components, structure, callTests, ending, answerOf}
 use Rattle.evaluate.specs.Store.{storeWith}
 
@@ -23,21 +23,22 @@ targetTests target = test 16 (outside 1 thousandths target) ∷ []
 abbrev pub speedTests : List ℕ → ℕ → ℕ → List Test
 speedTests sheet target room = callTests sheet room ++ targetTests target
 
--- The speed: that of the drive's list; 0 where the call is refused.
+-- The speed: the greatest low of the drive's list that meets the target (`SpeedMet` says that no demand above it does); 0 where the call
+-- is refused.
 abbrev pub speedBy : Evaluation Tree → ℕ → ℕ → List Focal → ℕ
 speedBy (refused number) target whole list = 0
 speedBy (completed stack pairs) target whole list = speedFor target whole list
 
--- The other answers are those of a call with the speed as its demand.
-abbrev pub promiseOf : Evaluation Tree → List Entry → List Component → ℕ → Promise
-promiseOf end es cs target =
+-- The other answers are those of an ordinary call with the speed as its demand.
+abbrev pub speedAnswerOf : Evaluation Tree → List Entry → List Component → ℕ → SpeedAnswer
+speedAnswerOf end es cs target =
     let speed : ℕ = speedBy end target (total cs) (driveList es cs) in
     record { answer = answerOf end es cs speed; speed = speed }
 
 -- What is answered for a sheet, a target, an allowance and a store of `room` bytes, and the store afterwards.
-unfoldable pub promise : List ℕ → ℕ → ℕ → ℕ → Promise
-promise sheet target allowance room =
-    promiseOf (ending (speedTests sheet target room) sheet allowance) (structure sheet) (components sheet) target
+unfoldable pub speedAnswer : List ℕ → ℕ → ℕ → ℕ → SpeedAnswer
+speedAnswer sheet target allowance room =
+    speedAnswerOf (ending (speedTests sheet target room) sheet allowance) (structure sheet) (components sheet) target
 
 unfoldable pub speedStoreAfter : List ℕ → ℕ → ℕ → List ℕ → List ℕ
 speedStoreAfter sheet target allowance store = storeWith (speedTests sheet target (length store)) sheet allowance store

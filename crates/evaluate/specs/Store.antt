@@ -7,10 +7,10 @@ use lib.ListN.{length}
 use Rattle.theory.specs.Focal.{Focal}
 use Rattle.theory.specs.Structure.{Tree}
 use Rattle.theory.specs.Evaluation.{Evaluation, completed, refused}
-use Rattle.plan.specs.Tests.{Test, firstBroken}
+use Rattle.plan.specs.Tests.{Test}
 use Rattle.records.specs.Store.{settled}
 use Rattle.run.specs.Run.{needed, cleared}
-use Rattle.evaluate.specs.Answer.{planOf, sheetList, callTests, endingAt}
+use Rattle.evaluate.specs.Answer.{planOf, sheetList, callTests, ending}
 
 -- The numbers that a join is refused with.
 abbrev pub isLate : ℕ → Bool
@@ -21,12 +21,9 @@ abbrev pub storeBy : Evaluation Tree → ℕ → List Focal → List ℕ → Lis
 storeBy (completed stack pairs) size list store = settled size list store
 storeBy (refused number) size list store = cond (isLate number) (cleared size store) store
 
--- The store after a call, by the number of its tests, and by the tests.
-abbrev pub storeAt : ℕ → List ℕ → ℕ → List ℕ → List ℕ
-storeAt number sheet allowance store = storeBy (endingAt number sheet allowance) (needed (planOf sheet)) (sheetList sheet) store
-
+-- The store after a call with these tests.
 abbrev pub storeWith : List Test → List ℕ → ℕ → List ℕ → List ℕ
-storeWith tests = storeAt (firstBroken tests)
+storeWith tests sheet allowance store = storeBy (ending tests sheet allowance) (needed (planOf sheet)) (sheetList sheet) store
 
 -- The store after the call on a sheet, a demand and an allowance.
 unfoldable pub storeAfter : List ℕ → ℕ → List ℕ → List ℕ

@@ -6,16 +6,16 @@ ghost use Rattle.theory.specs.Masses.{total};
 ghost use Rattle.plan.specs.Plan.{componentsOf};
 ghost use Rattle.plan.specs.Valid.{Valid};
 ghost use Rattle.plan.specs.Tests.{firstBroken};
-ghost use Rattle.evaluate.specs.Answer.{testedOf, endingAt, answer};
-ghost use Rattle.evaluate.specs.Store.{isLate, storeAt, storeAfter};
-ghost use Rattle.evaluate.specs.SheetRun.{numberThen, refusedRun, sheetRunOf, answerFrom};
-ghost use Rattle.evaluate.specs.Speed.{targetTests, promise, speedStoreAfter};
+ghost use Rattle.evaluate.specs.Answer.{testedOf, answer};
+ghost use Rattle.evaluate.specs.Store.{isLate, storeAfter};
+ghost use Rattle.evaluate.specs.SheetRun.{refusedRun, sheetRun, storeThen, answerFrom};
+ghost use Rattle.evaluate.specs.Speed.{targetTests, speedAnswer, speedStoreAfter};
 use plan::Plan;
 use queries::Shares;
 use reading::Reading;
 use theory::THOUSANDTHS;
 
-// What a call answers: the number of the refusal and zeros, or 0, the total U, the two shares of it, the pairs formed and the length
+// What an ordinary call answers: the number of the refusal and zeros, or 0, the total U, the two shares of it, the pairs formed and the length
 // of the drive's list.
 pub struct Answer {
     pub number: u8,
@@ -26,14 +26,14 @@ pub struct Answer {
     pub intervals: u64,
 }
 
-// What a call for a speed answers: the speed, and the answer of a call with that speed as its demand.
-pub struct Promise {
+// What a call for a speed answers: the speed, and the answer of an ordinary call with that speed as its demand.
+pub struct SpeedAnswer {
     pub answer: Answer,
     pub speed: u64,
 }
 
-// What tests and run leave to ask: the number of the refusal and zeros, or 0, the total U, the pairs formed and the length of the
-// drive's list.
+// What tests and run answer, before the list is asked: the number of the refusal and zeros, or 0, the total U, the pairs formed and the
+// length of the drive's list.
 pub struct SheetRun {
     pub number: u8,
     pub total: u64,
@@ -41,7 +41,7 @@ pub struct SheetRun {
     pub intervals: usize,
 }
 
-// The tests of a call on a store of `room` bytes: the number of the first that is broken, or 0, and the plan.
+// The tests that every call has first, on a store of `room` bytes: the number of the first that is broken, or 0, and the plan.
 fn tested(sheet: &[u8], room: usize) -> Reading
     ensures { λ r. ⌜ r ≡ testedOf (now (sheet .entry)) room ⌝ }
 {
@@ -87,8 +87,8 @@ fn refuse(number: u8) -> SheetRun
 // Tests and run of every call. `own` is the number of the call's own tests, which come behind 1 to 12 and before 13 and 14.
 fn run_sheet(sheet: &[u8], own: u8, allowance: u32, store: &mut [u8]) -> SheetRun
     requires { ⌜ isLate own ≡ false ⌝ }
-    ensures { λ r. ⌜ r ≡ sheetRunOf (endingAt (numberThen (now (sheet .entry)) (length (now (store .entry))) own) (now (sheet .entry)) allowance) (now (sheet .entry)) ⌝ }
-    ensures { λ _. ⌜ now (store .exit) ≡ storeAt (numberThen (now (sheet .entry)) (length (now (store .entry))) own) (now (sheet .entry)) allowance (now (store .entry)) ⌝ }
+    ensures { λ r. ⌜ r ≡ sheetRun (now (sheet .entry)) (length (now (store .entry))) own allowance ⌝ }
+    ensures { λ _. ⌜ now (store .exit) ≡ storeThen (now (sheet .entry)) own allowance (now (store .entry)) ⌝ }
 {
     let t = tested(sheet, store.len());
     let number = plan::first(own, t.number == 0, t.number);
@@ -109,7 +109,7 @@ fn run_sheet(sheet: &[u8], own: u8, allowance: u32, store: &mut [u8]) -> SheetRu
     }
 }
 
-// The answer, from what tests and run left to ask and the shares that were asked.
+// The answer, from what tests and run answered and the shares of the list.
 fn answer_from(r: SheetRun, s: Shares) -> Answer
     ensures { λ a. ⌜ a ≡ answerFrom r s ⌝ }
 {
@@ -123,7 +123,7 @@ fn answer_from(r: SheetRun, s: Shares) -> Answer
     }
 }
 
-// The call. It answers for any sheet, demand, allowance and store, and leaves every byte of the store as `storeAfter` says.
+// The ordinary call. It answers for any sheet, demand, allowance and store, and leaves every byte of the store as `storeAfter` says.
 pub fn bounds(sheet: &[u8], demand: u32, allowance: u32, store: &mut [u8]) -> Answer
     ensures { λ r. ⌜ r ≡ answer (now (sheet .entry)) demand allowance (length (now (store .entry))) ⌝ }
     ensures { λ _. ⌜ now (store .exit) ≡ storeAfter (now (sheet .entry)) allowance (now (store .entry)) ⌝ }
@@ -142,16 +142,17 @@ fn target_number(target: u32) -> u8
 }
 
 // The call for a speed. It answers for any sheet, target, allowance and store, and leaves every byte of the store as `speedStoreAfter` says.
-pub fn speed(sheet: &[u8], target: u32, allowance: u32, store: &mut [u8]) -> Promise
-    ensures { λ r. ⌜ r ≡ promise (now (sheet .entry)) target allowance (length (now (store .entry))) ⌝ }
+pub fn speed(sheet: &[u8], target: u32, allowance: u32, store: &mut [u8]) -> SpeedAnswer
+    ensures { λ r. ⌜ r ≡ speedAnswer (now (sheet .entry)) target allowance (length (now (store .entry))) ⌝ }
     ensures { λ _. ⌜ now (store .exit) ≡ speedStoreAfter (now (sheet .entry)) target allowance (now (store .entry)) ⌝ }
 {
     let r = run_sheet(sheet, target_number(target), allowance, store);
     let n = r.intervals;
+    // A refused call has no records: its speed and its shares are 0.
     let v = queries::speed_for(store, n, target, r.total);
     let s = queries::shares_at(store, n, v);
     let a = answer_from(r, s);
-    Promise {
+    SpeedAnswer {
         answer: a,
         speed: v,
     }

@@ -7,7 +7,7 @@ use native.Mathlib.Numerals.{add-one}
 use native.Mathlib.Omega.{arith}
 use lib.Arith.{digits-lt, digits-div, digits-mod, mod-mul}
 use lib.ListN.{length, take, drop, getD, set, take-append-drop, length-take, length-drop, length-append}
-use lib.Seq.{drop-cons, take-suc, append-snoc, set-at, length-take-le, take-all, take-at, getD-drop, drop-drop, drop-at, drop-append-add}
+use lib.Seq.{drop-cons, take-suc, append-snoc, set-at, length-take-le, take-all, take-at, getD-drop, drop-drop, drop-append-add}
 use Rattle.numbers.specs.Numbers.{Bytes, bigEndian, onto, numberAt}
 
 -- ---- one step along a list
@@ -170,10 +170,9 @@ read-back n v h = onto-bigEndian 0 n v ∙ rw (mod-eq-of-lt h) (omega arith)
 pub read-front : (n v : ℕ) (s : List ℕ) → v < 256 ^ n → numberAt (bigEndian n v ++ s) 0 n ≡ v
 read-front n v s h = ap (onto 0) (take-at (bigEndian n v) s n (length-bigEndian n v)) ∙ read-back n v h
 
-pub read-behind : (n v : ℕ) (s : List ℕ) (k m : ℕ) → numberAt (bigEndian n v ++ s) (n + k) m ≡ numberAt s k m
-read-behind n v s k m =
-    ap (λ (t : List ℕ). onto 0 (take m t)) (ap (λ j. drop (j + k) (bigEndian n v ++ s)) (sym (length-bigEndian n v)) ∙ drop-append-add (bigEndian n v) s k)
+-- Behind n other bytes a number is read at its own place.
+pub read-past : (xs s : List ℕ) (n k m : ℕ) → length xs ≡ n → numberAt (xs ++ s) (n + k) m ≡ numberAt s k m
+read-past xs s n k m e = ap (λ (t : List ℕ). onto 0 (take m t)) (ap (λ j. drop (j + k) (xs ++ s)) (sym e) ∙ drop-append-add xs s k)
 
--- A number behind other bytes is read at its own place.
-pub read-past : (xs s : List ℕ) (k m : ℕ) → length xs ≡ k → numberAt (xs ++ s) k m ≡ numberAt s 0 m
-read-past xs s k m e = ap (λ (t : List ℕ). onto 0 (take m t)) (drop-at xs s k e)
+pub read-behind : (n v : ℕ) (s : List ℕ) (k m : ℕ) → numberAt (bigEndian n v ++ s) (n + k) m ≡ numberAt s k m
+read-behind n v s k m = read-past (bigEndian n v) s n k m (length-bigEndian n v)

@@ -8,14 +8,14 @@ use Rattle.theory.specs.Order.{InOrder}
 use Rattle.records.specs.Records.{records}
 
 -- The target is 1 to 1,000 thousandths of a total above 0.
-pub record Asked (target total : ℕ) : Type 0 where
+pub record ValidTarget (target total : ℕ) : Type 0 where
   pub least : 0 < target
   pub most : target ≤ thousandths
   pub total-positive : 0 < total
 
--- The first n records of s are a list in order whose weights fit 64 bits. Where there are any, target and total are as they should be.
+-- The first n records of s are a list in order whose weights fit 64 bits. A list that is not empty is asked with a valid target.
 pub record Searchable (s : List ℕ) (n target total : ℕ) : Type 0 where
   pub room : recordBytes * n ≤ length s
   pub fits : weights (records n s) < 2 ^ 64
   pub ordered : InOrder (records n s)
-  pub asked : 0 < n → Asked target total
+  pub asked : 0 < n → ValidTarget target total

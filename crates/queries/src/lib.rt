@@ -60,7 +60,7 @@ fn target_met(share: u64, target: u32, total: u64) -> bool
 }
 
 // The speed for a target, 0 where no low meets it. The lows of the first n records are tried from the fastest down, and the first that
-// meets the target ends the search. Where several records have one low, each adds to its belief.
+// meets the target ends the search. Records with one low are tried one after the other: the low, and so the answer, is the same.
 pub fn speed_for(s: &[u8], n: usize, target: u32, total: u64) -> u64
     requires { ⌜ Searchable (now s) n target total ⌝ }
     ensures { λ r. ⌜ r ≡ speedFor target total (records n (now (s .entry))) ⌝ }

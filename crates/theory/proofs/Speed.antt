@@ -1,4 +1,4 @@
--- In a list in order the lows are tried from the fastest down: the first at which the weights passed meet the target is the promised speed.
+-- In a list in order the lows are tried from the fastest down: the first at which the weights passed meet the target is the speed.
 -- Assumes nothing.
 use Prim.Native.Nat.{ℕ, zero, suc, _+_, _*_, _≤_, _<_}
 use mathlib.Core.Path.{_≡_, refl, sym, ap}
@@ -14,7 +14,7 @@ use Rattle.theory.specs.Sums.{greatestBy, Every}
 use Rattle.theory.specs.Focal.{Focal, noFocal, weights}
 use Rattle.theory.specs.Choices.{belief}
 use Rattle.theory.specs.Order.{InOrder}
-use Rattle.theory.specs.Speed.{Meets, meets, Promised, speedFor}
+use Rattle.theory.specs.Speed.{Meets, meets, GreatestDemand, lowIfMet, speedFor}
 use Rattle.theory.proofs.Every.{every-map, every-all, index-of-every}
 use Rattle.theory.proofs.Order.{before-low}
 use Rattle.theory.proofs.Collect.{where-le}
@@ -59,9 +59,8 @@ belief-above (suc i) d (InOrder.more {f = f} {fs = fs} b r) h k =
 -- ---- the search
 
 module _ (target whole : ℕ) where
-  -- What counts of a low that is tried: the low where its belief meets the target.
   abbrev tried : List Focal → Focal → ℕ
-  tried l f = cond (meets target whole (belief (f .low) l)) (f .low) 0
+  tried = lowIfMet target whole
 
   -- Where all demands that meet the target are at most m, so is each low that counts.
   tried-most : (l : List Focal) (m : ℕ) → ((d : ℕ) → Meets target whole (belief d l) → d ≤ m) → (f : Focal) → tried l f ≤ m
@@ -86,8 +85,8 @@ module _ (target whole : ℕ) where
     pub before : Meets target whole (weights (drop (suc i) l)) → ⊥
 
   module _ {l : List Focal} (o : InOrder l) {i : ℕ} (found : Found l i) where
-    pub found-promised : Promised target whole (λ d. belief d l) (lowAt l i)
-    found-promised = record {
+    pub found-greatest : GreatestDemand target whole (λ d. belief d l) (lowAt l i)
+    found-greatest = record {
       met = omega (arith, found .met, belief-from i o (found .inside));
       greatest = λ d m. go d m (leb d (lowAt l i)) refl;
     }
@@ -99,9 +98,9 @@ module _ (target whole : ℕ) where
     -- The low of interval i is the speed.
     pub found-speed : lowAt l i ≡ speedFor target whole l
     found-speed =
-        let counts : tried l (getD l i noFocal) ≡ lowAt l i = rw (le-leb _ _ (found-promised .met)) in
+        let counts : tried l (getD l i noFocal) ≡ lowAt l i = rw (le-leb _ _ (found-greatest .met)) in
         le-antisymm (omega (arith, counts, greatest-least (tried l) noFocal l i (found .inside)))
-        (greatest-most (tried l) (lowAt l i) (every-all (tried-most l (lowAt l i) (found-promised .greatest)) l))
+        (greatest-most (tried l) (lowAt l i) (every-all (tried-most l (lowAt l i) (found-greatest .greatest)) l))
 
   -- Where all weights together do not meet the target, there is no speed.
   pub no-speed : (l : List Focal) → (Meets target whole (weights l) → ⊥) → 0 ≡ speedFor target whole l
@@ -120,10 +119,10 @@ module _ (target whole : ℕ) where
           (suc i, record { inside = omega (arith, found .inside); met = found .met; before = found .before })
       go false e r = (0, record { inside = omega arith; met = h; before = λ m. omega (arith, m, leb-false (target * whole) (thousandths * weights fs) e) })
 
-  -- The speed of a list in order is the promised one, and no other number is.
-  pub speed-promised : 0 < target * whole → {l : List Focal} → InOrder l → Meets target whole (weights l)
-      → Promised target whole (λ d. belief d l) (speedFor target whole l)
-  speed-promised p {l} o h = let (i, found) = find p l h in rw (← found-speed o found) (found-promised o found)
+  -- The speed of a list in order is the greatest demand that meets the target, and no other number is.
+  pub speed-greatest : 0 < target * whole → {l : List Focal} → InOrder l → Meets target whole (weights l)
+      → GreatestDemand target whole (λ d. belief d l) (speedFor target whole l)
+  speed-greatest p {l} o h = let (i, found) = find p l h in rw (← found-speed o found) (found-greatest o found)
 
-  pub promised-one : {beliefAt : ℕ → ℕ} {v w : ℕ} → Promised target whole beliefAt v → Promised target whole beliefAt w → v ≡ w
-  promised-one p q = le-antisymm (q .greatest _ (p .met)) (p .greatest _ (q .met))
+  pub greatest-one : {beliefAt : ℕ → ℕ} {v w : ℕ} → GreatestDemand target whole beliefAt v → GreatestDemand target whole beliefAt w → v ≡ w
+  greatest-one p q = le-antisymm (q .greatest _ (p .met)) (p .greatest _ (q .met))

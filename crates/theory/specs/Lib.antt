@@ -1,6 +1,6 @@
 -- The drive calculation as document 01 defines it, in its order: "Words", "Joins", "Pairs, allowance and store", and the bounds that
--- demand 3 asks for. Document 01 is the requirement; source 002 is Wagenknecht and Gocht, "On the reliability of multistate systems with
--- imprecise probabilities".
+-- demand 3 asks for; then the speed of document 02, request one. Document 01 is the requirement, document 02 has the requests after it;
+-- source 002 is Wagenknecht and Gocht, "On the reliability of multistate systems with imprecise probabilities".
 pub mod Limits
 pub mod Sums
 pub mod Focal

@@ -1,4 +1,4 @@
--- The limits of document 01, each number once; the constants of src/lib.rt are the same. Assumes nothing.
+-- The limits of documents 01 and 02, each number once; the constants of src/lib.rt are the same. Assumes nothing.
 use Prim.Native.Nat.{ℕ, _-_, _*_}
 
 -- The highest speed of a component, in millimetres a second; the lowest is 0.

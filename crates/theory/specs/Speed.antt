@@ -15,11 +15,15 @@ Meets target whole share = target * whole ≤ thousandths * share
 abbrev pub meets : ℕ → ℕ → ℕ → Bool
 meets target whole share = leb (target * whole) (thousandths * share)
 
--- What is promised: a demand that meets the target, and of all demands that do the greatest.
-pub record Promised (target whole : ℕ) (beliefAt : ℕ → ℕ) (speed : ℕ) : Type 0 where
+-- `speed` is a demand that meets the target, and of all demands that do the greatest: the promised speed.
+pub record GreatestDemand (target whole : ℕ) (beliefAt : ℕ → ℕ) (speed : ℕ) : Type 0 where
   pub met : Meets target whole (beliefAt speed)
   pub greatest : (d : ℕ) → Meets target whole (beliefAt d) → d ≤ speed
 
--- The greatest low of a list whose belief meets the target, 0 where none does.
+-- The low of the interval f of a list l where belief at that low meets the target, else 0.
+abbrev pub lowIfMet : ℕ → ℕ → List Focal → Focal → ℕ
+lowIfMet target whole l f = cond (meets target whole (belief (f .low) l)) (f .low) 0
+
+-- The greatest low of a list that meets the target, 0 where none does.
 abbrev pub speedFor : ℕ → ℕ → List Focal → ℕ
-speedFor target whole l = greatestBy (λ f. cond (meets target whole (belief (f .low) l)) (f .low) 0) l
+speedFor target whole l = greatestBy (lowIfMet target whole l) l

@@ -1,4 +1,4 @@
--- Sums and products over lists, counts, and every way to take one element from each list of a row. Assumes nothing.
+-- Sums, products and the greatest over lists, counts, and every way to take one element from each list of a row. Assumes nothing.
 use Prim.Native.Nat.{ℕ, zero, suc, _+_, _*_, max}
 use mathlib.Core.Path.{_≡_}
 use mathlib.Core.Bool.{cond}

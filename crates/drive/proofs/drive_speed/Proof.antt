@@ -3,8 +3,8 @@ use Prim.Native.Nat.{ℕ}
 use mathlib.Core.Path.{sym, ap, _∙_}
 use mathlib.Core.List.{List, _++_}
 use lib.ListN.{drop}
-use Rattle.evaluate.specs.declared.Promise.{Promise}
-use Rattle.drive.specs.Speed.{promiseBytes, encodePromise}
+use Rattle.evaluate.specs.declared.SpeedAnswer.{SpeedAnswer}
+use Rattle.drive.specs.Speed.{speedAnswerBytes, encodeSpeedAnswer}
 use Rattle.drive.proofs.Call.{nothing}
 use Rattle.drive.proofs.Speed.{too-short, long-enough}
 use borrow.Author.Needs.{needs}
@@ -16,7 +16,7 @@ returns c =
     let b = c .before .before .before in
     let s = b .before .before .before .before .before .before in
     let way = too-short (s .args .sheet .now) (s .args .target) (s .args .allowance) (s .args .list .now) (s .args .answer .now) (b .before .before .if1 .taken) in (
-      ap (λ (p : Promise). p .answer .number) (b .speed .ensures .0) ∙ sym (way .0),
+      ap (λ (p : SpeedAnswer). p .answer .number) (b .speed .ensures .0) ∙ sym (way .0),
       (ap (λ (l : List ℕ). l ++ s .args .list .now) (nothing (b .speed .last .1 .1 .1 .0) (b .speed .kept .1 .1 .1 .0)) ∙ sym (way .1), sym (way .2)),
     )
 
@@ -26,10 +26,10 @@ returns-2 c =
     let b = p .before .before .before .before in
     let s = b .before .before .before .before .before .before in
     let way = long-enough (s .args .sheet .now) (s .args .target) (s .args .allowance) (s .args .list .now) (s .args .answer .now) (b .before .before .if1 .left) in (
-      ap (λ (v : Promise). v .answer .number) (b .speed2 .ensures .0) ∙ sym (way .0),
+      ap (λ (v : SpeedAnswer). v .answer .number) (b .speed2 .ensures .0) ∙ sym (way .0),
       (
         b .speed2 .ensures .1 ∙ sym (way .1),
-        p .put-promise .ensures ∙ (ap (λ (v : Promise). encodePromise v ++ drop promiseBytes (s .args .answer .now)) (b .speed2 .ensures .0) ∙ sym (way .2)),
+        p .put-speed-answer .ensures ∙ (ap (λ (v : SpeedAnswer). encodeSpeedAnswer v ++ drop speedAnswerBytes (s .args .answer .now)) (b .speed2 .ensures .0) ∙ sym (way .2)),
       ),
     )
 

@@ -4,8 +4,8 @@ use mathlib.Core.Path.{sym, ap, _∙_}
 use mathlib.Core.List.{List}
 use lib.ListN.{length}
 use Rattle.queries.specs.Shares.{sharesOf}
-use Rattle.evaluate.specs.Answer.{components, structure, endingAt, answerOf}
-use Rattle.evaluate.specs.Store.{storeAt}
+use Rattle.evaluate.specs.SheetRun.{endingAt, storeAt}
+use Rattle.evaluate.specs.Answer.{components, structure, answerOf}
 use Rattle.evaluate.proofs.Numbers.{number-alone, answer-is, store-is}
 use Rattle.evaluate.proofs.Finish.{end, askedList, Readable, readable, answer-asked}
 use borrow.Author.Needs.{needs}
@@ -37,9 +37,10 @@ returns c =
     let h = c .before in
     let r = h .before .before .before .before in
     let a = start r .args in
-    let number = number-alone (sheet r) (length (store r)) in (
+    let number = number-alone (sheet r) (length (store r)) in
+    let shares = h .shares-at .ensures ∙ ap (sharesOf (a .demand)) (read r .list-is) in (
       c .answer-from .ensures
-          ∙ (answer-asked (sheet r) (a .demand) (end (sheet r) 0 (a .allowance) (store r)) (r .run-sheet .ensures .0) (h .shares-at .ensures ∙ ap (sharesOf (a .demand)) (read r .list-is))
+          ∙ (answer-asked (sheet r) (a .demand) (end (sheet r) 0 (a .allowance) (store r)) (r .run-sheet .ensures .0) shares
           ∙ (ap (λ (n : ℕ). answerOf (endingAt n (sheet r) (a .allowance)) (structure (sheet r)) (components (sheet r)) (a .demand)) number
           ∙ sym (answer-is (sheet r) (a .demand) (a .allowance) (length (store r))))),
       r .run-sheet .ensures .1 ∙ (ap (λ (n : ℕ). storeAt n (sheet r) (a .allowance) (store r)) number ∙ sym (store-is (sheet r) (a .allowance) (store r))),

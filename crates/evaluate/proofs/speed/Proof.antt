@@ -1,22 +1,22 @@
 -- `evaluate::speed` meets its contract: tests and run, the speed of the list, and its shares at the speed. Assumes nothing.
 use Prim.Native.Nat.{ℕ}
 use mathlib.Core.Path.{_≡_, refl, sym, ap, _∙_}
-use mathlib.Core.Bool.{Bool, true, false, cond}
+use mathlib.Core.Bool.{false}
 use mathlib.Core.List.{List}
 use lib.ListN.{length}
 use Rattle.theory.specs.Masses.{total}
 use Rattle.theory.specs.Structure.{Tree}
 use Rattle.theory.specs.Evaluation.{Evaluation, completed, refused}
-use Rattle.theory.specs.Limits.{thousandths}
 use Rattle.theory.specs.Speed.{speedFor}
-use Rattle.plan.specs.Tests.{firstBroken, outside}
+use Rattle.plan.specs.Tests.{firstBroken}
+use Rattle.plan.proofs.Numbers.{number-never}
 use Rattle.queries.specs.Shares.{sharesOf}
 use Rattle.evaluate.specs.declared.SheetRun.{SheetRun}
-use Rattle.evaluate.specs.Answer.{components, structure, sheetList, endingAt, answerOf}
-use Rattle.evaluate.specs.Store.{isLate, storeAt}
-use Rattle.evaluate.specs.SheetRun.{numberThen, sheetRunOf}
-use Rattle.evaluate.specs.Speed.{targetTests, speedBy, promiseOf}
-use Rattle.evaluate.proofs.Numbers.{number-then, promise-is, speed-store-is}
+use Rattle.evaluate.specs.Answer.{components, structure, sheetList, answerOf}
+use Rattle.evaluate.specs.Store.{isLate}
+use Rattle.evaluate.specs.SheetRun.{numberThen, sheetRunOf, endingAt, storeAt}
+use Rattle.evaluate.specs.Speed.{targetTests, speedBy, speedAnswerOf}
+use Rattle.evaluate.proofs.Numbers.{number-then, speed-answer-is, speed-store-is}
 use Rattle.evaluate.proofs.Finish.{end, askedList, Readable, readable, target-asked, answer-asked}
 use borrow.Author.Needs.{needs}
 use Rattle.evaluate.proofs.speed.Statement.{statement}
@@ -30,11 +30,7 @@ speed-asked s target (completed stack pairs) e = ap (λ (y : SheetRun). speedFor
 
 -- 16 is not late.
 early : (target : ℕ) → isLate (firstBroken (targetTests target)) ≡ false
-early target = go (outside 1 thousandths target)
-  where
-    go : (b : Bool) → isLate (cond b 16 0) ≡ false
-    go true = refl
-    go false = refl
+early target = number-never isLate refl (targetTests target) refl
 
 -- Past the run.
 module _ (c : tie.After-run-sheet) where
@@ -98,8 +94,8 @@ returns c =
     ∙ answer-asked (sheet r) (v .speed-for .result) (ending r) (ran r) (h .shares-at .ensures ∙ ap (sharesOf (v .speed-for .result)) (read r .list-is)) in (
       (λ i. record { answer = other i; speed = v .speed-for .result })
           ∙ (ap (λ (w : ℕ). record { answer = answerOf (ending r) (structure (sheet r)) (components (sheet r)) w; speed = w }) speed
-          ∙ (ap (λ (n : ℕ). promiseOf (endingAt n (sheet r) (a .allowance)) (structure (sheet r)) (components (sheet r)) (a .target)) number
-          ∙ sym (promise-is (sheet r) (a .target) (a .allowance) (length (store r))))),
+          ∙ (ap (λ (n : ℕ). speedAnswerOf (endingAt n (sheet r) (a .allowance)) (structure (sheet r)) (components (sheet r)) (a .target)) number
+          ∙ sym (speed-answer-is (sheet r) (a .target) (a .allowance) (length (store r))))),
       stored r ∙ (ap (λ (n : ℕ). storeAt n (sheet r) (a .allowance) (store r)) number ∙ sym (speed-store-is (sheet r) (a .target) (a .allowance) (store r))),
     )
 

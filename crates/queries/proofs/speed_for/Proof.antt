@@ -15,7 +15,7 @@ use Rattle.theory.proofs.Sums.{sum-drop}
 use Rattle.theory.proofs.Speed.{Found, found-speed, no-speed}
 use Rattle.records.specs.Records.{recordAt, records}
 use Rattle.records.proofs.Records.{key-ends, length-records, records-at, records-next, records-end, record-under}
-use Rattle.queries.specs.Speed.{Asked}
+use Rattle.queries.specs.Speed.{ValidTarget}
 use Rattle.queries.proofs.speed_for.Statement.{statement}
 use Rattle.queries.proofs.speed_for.Tie as tie
 
@@ -56,7 +56,7 @@ module _ (c : tie.Else1 Inv-loop μ-loop) where
   back : c .before .loop .i ≡ suc place
   back = omega (arith, c .if1 .left)
 
-  asked : Asked (start .args .target) (start .args .total)
+  asked : ValidTarget (start .args .target) (start .args .total)
   asked = start .pre .asked (omega (arith, inside))
 
   -- The weights from this place on.
@@ -83,7 +83,7 @@ loop-holds c =
       ),
     )
 
--- What the comparison says of them.
+-- What the comparison says of the weights from this place on.
 tested : (c : tie.After-target-met Inv-loop μ-loop) → let t = c .before .before in
     c .target-met .result ≡ meets (start t .args .target) (start t .args .total) (weights (drop (place t) (list t)))
 tested c =
@@ -118,9 +118,11 @@ returns c =
 returns-2 : tie.Need-returns-2 Inv-loop μ-loop
 returns-2 c =
     let t = c .before .before .before .before in
+    let a = start t .args in
     let low = key-ends (recordAt (s t) (place t)) (c .key-at .ensures) (record-under (s t) (place t) (λ k. t .before .before .shared-slice-known .given k .fits) .1) .0 in
     low
-    ∙ (ap (λ (f : Focal). f .low) (sym (records-at (n t) (place t) (s t) (inside t))) ∙ found-speed (start t .args .target) (start t .args .total) (start t .pre .ordered) (found (c .before)))
+    ∙ (ap (λ (f : Focal). f .low) (sym (records-at (n t) (place t) (s t) (inside t)))
+    ∙ found-speed (a .target) (a .total) (start t .pre .ordered) (found (c .before)))
 
 pub speed-for-spec : {M : Type 1} → statement M
 speed-for-spec =
