@@ -6,8 +6,8 @@
  *   belief         the share of time at or above the demand that the logs vouch for;
  *   plausibility   the share that nothing in the logs rules out.
  * Both are exact. Wherever inside the logged intervals the modules ran, the true share lies between the two, as long as the modules
- * are independent of each other (see "From logs to a plan"). Another call starts from a share of the time and answers the greatest
- * speed that the logs vouch for during it (drive_speed).
+ * are independent of each other (see "From logs to a plan"). Another call, drive_speed, starts from a share of the time and answers
+ * the greatest speed that the logs vouch for at that share.
  *
  * Link libdrive.a or libdrive.so (x86-64 Linux, System V calling convention):
  *   cc -Ihost program.c target/staticlib/libdrive.a     (in the repository, after rt staticlib drive)
@@ -58,6 +58,8 @@
  *              stack, a join's code takes the two topmost lists and puts their join back. n modules take 2n - 1 entries.
  *              "Module 0 or its spare, module 1; both in series with module 2" is 0, 1, SPARE, 2, SERIES.
  *   list       the intervals of the whole drive with their weights, in ascending order of low, then of high.
+ *   demand     a speed that is asked about; any 32-bit number.
+ *   target     a share of the time that is asked about, in thousandths: 1 to 1,000.
  *   pairs      a join of lists of a and b intervals forms a times b pairs. The pair count is the sum of this over all joins.
  *
  * From logs to a plan
@@ -328,11 +330,12 @@ uint32_t drive_bounds(const uint8_t *sheet, size_t sheet_length, uint32_t demand
  *                 speed as its demand; then the speed
  *   13, 14        zero                                       zero
  *   1 to 12, 16   zero                                       unchanged
- *   The speed has 8 bytes, too. What drive_bounds says of the order of the numbers and of a short answer buffer holds here with 48
- *   bytes in place of 40; 16, for a target that is not 1 to 1,000, comes after 12 and before 13.
+ *   The speed has 8 bytes, too. What drive_bounds says of the order of the numbers, of a short answer buffer and of 13 and 14 holds
+ *   here, with 48 bytes in place of 40; 16, for a target that is not 1 to 1,000, comes after 12 and before 13.
  *
- * The comparison is exact: 1000 * belief is at least target * total. drive_bounds with the speed as its demand gives the same
- * answers; one mm/s faster, its belief is below the target. A speed of 0 says that at that share the logs vouch for none above 0. */
+ * The comparison is exact: 1000 * belief is at least target * total. Both products may exceed 64 bits: a program that repeats it
+ * needs unsigned __int128. drive_bounds with the speed as its demand gives the same answers; one mm/s faster, its belief is below
+ * the target. A speed of 0 says that at that share the logs vouch for none above 0. */
 uint32_t drive_speed(const uint8_t *sheet, size_t sheet_length, uint32_t target, uint32_t allowance, uint8_t *list,
                      size_t list_length, uint8_t *answer, size_t answer_length);
 
@@ -352,7 +355,7 @@ uint32_t drive_speed(const uint8_t *sheet, size_t sheet_length, uint32_t target,
     X(9, DRIVE_E_ENTRY, "an entry is missing, is 6, 7 or above 10, or names a module not below n") \
     X(10, DRIVE_E_NAMED, "a module is named twice or never") \
     X(11, DRIVE_E_JOIN, "a join finds fewer than two lists") \
-    X(12, DRIVE_E_BUFFER, "a buffer is too short: plan 336 bytes, writer's answer 8, list 16,384, answer 40, with a speed 48") \
+    X(12, DRIVE_E_BUFFER, "a buffer is too short: plan 336 bytes, writer's answer 8, list 16,384, answer 40 (of drive_speed 48)") \
     X(13, DRIVE_E_ALLOWANCE, "the pairs formed so far and those of this join exceed the allowance") \
     X(14, DRIVE_E_LIST, "a join's list has more than 256 different intervals") \
     X(15, DRIVE_E_SHEET_BUFFER, "the writer's sheet buffer is shorter than the sheet") \

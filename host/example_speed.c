@@ -8,22 +8,22 @@
 
 static const uint32_t targets[] = {500, 750, 900, 950, 990, DRIVE_TARGET_MAX}; /* in thousandths of the time */
 
-/* From logs in hours. What a module lets the chair do: 0 where it failed, 2,222 mm/s (8 km/h) where it is not in the way. */
+/* From logs in hours. What a module lets the chair do: 0 where it failed, 2,500 mm/s (9 km/h) where it is not in the way. */
 static void build_plan(uint8_t *plan) {
     drive_plan_clear(plan);
     uint32_t joystick = drive_plan_module(plan, 1000);
     drive_plan_interval(plan, joystick, 0, 0, 2);
     drive_plan_interval(plan, joystick, 1200, 1900, 58);
-    drive_plan_interval(plan, joystick, 1900, 2222, 940);
+    drive_plan_interval(plan, joystick, 1900, 2500, 940);
     uint32_t controller = drive_plan_module(plan, 1000);
     drive_plan_interval(plan, controller, 0, 0, 1);
     drive_plan_interval(plan, controller, 900, 1500, 34);
-    drive_plan_interval(plan, controller, 1400, 2222, 165);
-    drive_plan_interval(plan, controller, 2000, 2222, 800);
+    drive_plan_interval(plan, controller, 1400, 2500, 165);
+    drive_plan_interval(plan, controller, 2000, 2500, 800);
     uint32_t battery = drive_plan_module(plan, 500);
     drive_plan_interval(plan, battery, 1000, 1400, 15);
-    drive_plan_interval(plan, battery, 1500, 2222, 85);
-    drive_plan_interval(plan, battery, 2100, 2222, 400);
+    drive_plan_interval(plan, battery, 1500, 2500, 85);
+    drive_plan_interval(plan, battery, 2100, 2500, 400);
     drive_plan_entry(plan, joystick);
     drive_plan_entry(plan, controller);
     drive_plan_entry(plan, DRIVE_ED1_SERIES);
@@ -54,7 +54,8 @@ int main(void) {
             printf("no speed above 0\n");
             continue;
         }
-        uint32_t tenths = a.speed * 36 / 1000, share = drive_belief_hundredths(a.bounds); /* km/h and percent, both rounded down */
+        uint32_t tenths = a.speed * 36 / 1000; /* of a km/h, rounded down */
+        uint32_t share = drive_belief_hundredths(a.bounds);
         printf("%4" PRIu32 " mm/s (%" PRIu32 ".%" PRIu32 " km/h) or faster. ", a.speed, tenths / 10, tenths % 10);
         printf("Vouched for: %" PRIu64 " of %" PRIu64, a.bounds.belief, a.bounds.total);
         printf(", %" PRIu32 ".%02" PRIu32 " %%\n", share / 100, share % 100);

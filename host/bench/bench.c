@@ -166,7 +166,7 @@ int main(int argc, char **argv) {
     }
 
     printf("Nanoseconds a call, the median of %d turns of about %d microseconds each. The turns of the call and of plain C alternate.\n"
-           "The buffers are not cleared between calls; both write all 16,384 bytes of the list and 40 of the answer.\n\n",
+           "The buffers are not cleared between calls; both write all 16,384 bytes of the list and 40 of the answer, or 48.\n\n",
            TURNS, TURN_NS / 1000);
     printf("%-22s %9s %11s %11s %7s\n", "sheet", "pairs", "call", "plain C", "ratio");
     for (unsigned i = 0; i < ROWS; i++) {

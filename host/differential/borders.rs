@@ -43,9 +43,9 @@ borders! {
     TargetBefore13: "a wrong target where 13 would follow: 16",
     TargetBefore14: "a wrong target where 14 would follow: 16",
     TargetExact: "a target below 1,000 that belief meets exactly",
-    TargetOver: "a target that belief exceeds by less than 1 of a total above 10^16",
+    TargetOver: "a target that belief exceeds by less than 1 of a total whose thousandfold exceeds 64 bits",
     TargetRounded: "a target that a faster low misses by less than 1 of the total",
-    TargetUnder: "a target that a faster low misses by less than 1 of a total above 10^16",
+    TargetUnder: "a target that a faster low misses by less than 1 of a total whose thousandfold exceeds 64 bits",
     SpeedZero: "a speed of 0",
     SpeedSum: "a speed above 4,095",
     SpeedShared: "a speed that is the low of several intervals",
@@ -176,7 +176,7 @@ impl Borders {
     fn of_speed(&mut self, run: &Run, target: u32, speed: u32) {
         let lows = || run.list.iter().map(|focal| focal.low);
         let over = |low: u32| run.over(run.belief(low), target);
-        let large = run.total > 10u64.pow(16); // 1,000 times the total does not fit 64 bits
+        let large = run.total > u64::MAX / 1_000; // 1,000 times the total does not fit 64 bits
         let met = over(speed);
         self.met(Border::TargetExact, met == 0 && target < TOP_TARGET);
         self.met(Border::TargetOver, large && 0 < met && met < 1_000);

@@ -53,7 +53,7 @@ fn heaviest(mut plan: Plan) -> Plan {
     plan
 }
 
-/// A drive that reaches some speed with the whole number next to some thousandths of its total, below or above them. The
+/// A drive whose belief at some speed is a whole number next to some thousandths of its total, below or above. The
 /// digits of that number, to the bases of the totals, are the weights of fast speeds. A middle speed of weight 1 leaves
 /// it to the components behind, whose speeds add up to less than a step.
 fn next_to_thousandths(random: &mut Random) -> Plan {

@@ -127,7 +127,7 @@ static int answer_is(const uint8_t *answer, const uint64_t *want) {
     return a.total == want[0] && a.belief == want[1] && a.plausibility == want[2] && a.pairs == want[3] && a.intervals == want[4];
 }
 
-/* drive_bounds at a demand or drive_speed at a target: the number where that is refused, the bytes of the answer, and the answers to
+/* A call and what it is asked, a demand or a target: the number that refuses this, or 0; the bytes of the answer; the answers to
  * case P2. */
 struct ask {
     bounds_fn *call;
@@ -447,8 +447,8 @@ static void speed_row(const char *name, struct plan p, uint32_t target, uint64_t
     EXPECT(got == want, "%s: speed %llu at target %u, not %llu", name, (unsigned long long)got, target, (unsigned long long)want);
 }
 
-/* Six modules with T 1,000. Each runs at 1500 or more, but at 900 or more for `first` (module 0) or for `others` (each other one). The
- * others are joined by `join`, and module 0 with them by `last`. */
+/* Six modules with T 1,000. Each runs at 1,500 or more, except for `first` (module 0) or `others` (each other module) of the 1,000,
+ * when it runs at 900 or more. The others are joined by `join`, and module 0 with them by `last`. */
 static struct plan six(unsigned first, unsigned others, unsigned join, unsigned last) {
     const uint16_t j = (uint16_t)join, entry[DRIVE_ENTRIES_MAX] = {0, 1, 2, 3, 4, 5, j, j, j, j, (uint16_t)last};
     const struct component fast = {1000, 1, {{1500, 2000, 1000}}};
@@ -467,9 +467,9 @@ static void test_speeds(void) {
     const uint32_t w_targets[] = {1, 42, 43, 264, 265, DRIVE_TARGET_MAX};
     const uint64_t w_speeds[] = {7, 7, 3, 3, 0, 0};
     for (unsigned i = 0; i < 6; i++) speed_row("W", w, w_targets[i], w_speeds[i]);
-    speed_row("P2", shared, 750, 3);
-    speed_row("P2", shared, 751, 1);
-    finish("drive_speed: the speeds of W and of case P2");
+    speed_row("the most pairs", widest(), 1, 239);
+    speed_row("the most pairs", widest(), DRIVE_TARGET_MAX, 0);
+    finish("drive_speed: the speeds of W, and those of the sheet with the most pairs");
 
     speed_row("all of 10^18 but 1", six(1, 1, DRIVE_ED1_SPARE, DRIVE_ED1_SPARE), 999, 1500);
     speed_row("all of 10^18 but 1", six(1, 1, DRIVE_ED1_SPARE, DRIVE_ED1_SPARE), 1000, 900);
@@ -484,8 +484,6 @@ static void test_speeds(void) {
         struct sheet s = make_sheet(&swept[i]);
         for (uint32_t target = 1; target <= DRIVE_TARGET_MAX; target++) speed_at(&s, target);
     }
-    speed_row("the most pairs", widest(), 1, 239);
-    speed_row("the most pairs", widest(), DRIVE_TARGET_MAX, 0);
     finish("drive_speed: every target against drive_bounds");
 }
 
