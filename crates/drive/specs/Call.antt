@@ -22,8 +22,8 @@ unfoldable pub encodeAnswer : Answer → List ℕ
 encodeAnswer a =
     bigEndian 8 (a .total) ++ (bigEndian 8 (a .belief) ++ (bigEndian 8 (a .plausibility) ++ (bigEndian 8 (a .pairs) ++ bigEndian 8 (a .intervals))))
 
--- The ordinary call and that for a speed have a list buffer and an answer buffer, in which their answers take `size` bytes. The bytes of the list buffer that count: none
--- where the answer buffer is too short, so that the number is 12 unless one of 1 to 11 applies.
+-- The ordinary call and that for a speed have a list buffer and an answer buffer, in which their answers take `size` bytes. The bytes of
+-- the list buffer that count: none where the answer buffer is too short, so that the number is 12 unless one of 1 to 11 applies.
 abbrev pub room : ℕ → List ℕ → List ℕ → ℕ
 room size list buffer = cond (ltb (length buffer) size) 0 (length list)
 
@@ -48,7 +48,8 @@ listAfter sheet allowance list buffer = listBy answerBytes list buffer (storeAft
 unfoldable pub answerAfter : List ℕ → ℕ → ℕ → List ℕ → List ℕ → List ℕ
 answerAfter sheet demand allowance list buffer = answersBy answerBytes buffer (encodeAnswer (called sheet demand allowance list buffer))
 
--- With 48 for 40 where a speed is asked: "If that has fewer than 40 bytes, it and the list buffer stay unchanged and the number is 12, unless one of 1 to 11 applies."
+-- "If that has fewer than 40 bytes, it and the list buffer stay unchanged and the number is 12, unless one of 1 to 11 applies." Where a
+-- speed is asked for, 48 stands for 40.
 pub record TooShort (sheet : List ℕ) (number : ℕ) (list listThen buffer bufferThen : List ℕ) : Type 0 where
   pub answer-unchanged : bufferThen ≡ buffer
   pub list-unchanged : listThen ≡ list

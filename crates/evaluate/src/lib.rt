@@ -34,11 +34,11 @@ pub struct SpeedAnswer {
 
 // What tests and run answer, before the list is asked: the number of the refusal and zeros, or 0, the total U, the pairs formed and the
 // length of the drive's list.
-pub struct SheetRun {
-    pub number: u8,
-    pub total: u64,
-    pub pairs: u64,
-    pub intervals: usize,
+struct SheetRun {
+    number: u8,
+    total: u64,
+    pairs: u64,
+    intervals: usize,
 }
 
 // The tests that every call has first, on a store of `room` bytes: the number of the first that is broken, or 0, and the plan.
