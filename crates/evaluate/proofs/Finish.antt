@@ -191,6 +191,7 @@ pub record Readable (l : List Focal) (n : ℕ) (x : List ℕ) : Type 0 where
   pub fits : weights (records n x) < 2 ^ 64
   pub ordered : InOrder (records n x)
 
+-- A refused call has no list.
 nothing : (r : SheetRun) (x : List ℕ) {k : ℕ} → r ≡ refusedRun k → Readable [] (r .intervals) x
 unfolding records
 nothing r x e =
@@ -234,7 +235,7 @@ target-asked s target allowance store r e h = go (ended (number s own allowance 
         let positive = total-positive (every-map (λ c t. t .0) (valid .totals)) in
         record { least = bounds .0; most = bounds .1; total-positive = omega (arith, positive, ap (λ (y : SheetRun). y .total) e) }
 
--- The answer, from what is left to ask and the list's shares.
+-- The answer, from what tests and run answered and the list's shares.
 pub answer-asked : (s : List ℕ) (demand : ℕ) (v : Evaluation Tree) {r : SheetRun} → r ≡ sheetRunOf v s → {b : Shares} → b ≡ sharesOf demand (askedList v s)
     → answerFrom r b ≡ answerOf v (structure s) (components s) demand
 answer-asked s demand v e f = (λ i. answerFrom (e i) (f i)) ∙ go v

@@ -22,7 +22,7 @@ use borrow.Author.Needs.{needs}
 use Rattle.evaluate.proofs.speed.Statement.{statement}
 use Rattle.evaluate.proofs.speed.Tie as tie
 
--- The speed, from what is left to ask and the list.
+-- The speed, from what tests and run answered and the list.
 speed-asked : (s : List ℕ) (target : ℕ) (v : Evaluation Tree) {r : SheetRun} → r ≡ sheetRunOf v s
     → speedFor target (r .total) (askedList v s) ≡ speedBy v target (total (components s)) (sheetList s)
 speed-asked s target (refused k) e = refl
