@@ -4,9 +4,11 @@ ghost use mathlib.Core.Bool.{_||_};
 ghost use Prim.Native.Nat.{_≤_, _*_};
 ghost use lib.Dec.{ltb};
 ghost use lib.ListN.{length};
-ghost use Rattle.field.specs.Fields.{putAll};
+ghost use Rattle.field.specs.Fields.{WindowInside, putAll};
+ghost use Rattle.reader.specs.Fields.{threeAt};
 ghost use Rattle.theory.specs.Limits.{mostHeld};
-ghost use Rattle.block.specs.Block.{placeOf, sizeOf, componentOf, zeroComponent, noBlock, blockIn, intervalsOf, fieldsOf};
+ghost use Rattle.block.specs.Block.{speedBits, weightBits, intervalBits, placeOf, sizeOf, componentOf, zeroComponent, noBlock, blockIn, intervalsOf, fieldsOf};
+use reader::Triple;
 use theory::Component;
 use theory::MOST_HELD;
 
@@ -77,6 +79,23 @@ fn no_block() -> Block
     }
 }
 
+// The low, the high and the weight of the interval at bit `place`. Its bits are gathered once; the sizes of its fields are fixed entries of
+// the table.
+fn read_interval(part: &[u8], place: usize) -> Triple
+    requires { ⌜ WindowInside (now part) place intervalBits ⌝ }
+    ensures { λ r. ⌜ r ≡ threeAt (now (part .entry)) place speedBits speedBits weightBits ⌝ }
+{
+    let w = reader::window(part, place, INTERVAL_BITS);
+    let speed_size = powers::pow2(SPEED_BITS);
+    let weight_size = powers::pow2(WEIGHT_BITS);
+    let both_size = powers::pow2(SPEED_BITS + WEIGHT_BITS);
+    Triple {
+        first: (w / both_size % speed_size) as u32,
+        second: (w / weight_size % speed_size) as u32,
+        third: (w % weight_size) as u32,
+    }
+}
+
 // The component of k intervals in the block at the front of part; T is total.
 fn read_component(part: &[u8], k: usize, total: u16) -> Component
     requires { ⌜ (k ≤ mostHeld) × (sizeOf k ≤ length (now part)) ⌝ }
@@ -84,7 +103,7 @@ fn read_component(part: &[u8], k: usize, total: u16) -> Component
 {
     let mut c = zero_component();
     for i in 0..k {
-        let t = reader::three(part, interval_place(i), SPEED_BITS, SPEED_BITS, WEIGHT_BITS);
+        let t = read_interval(part, interval_place(i));
         c.lows[i] = t.first as u16;
         c.highs[i] = t.second as u16;
         c.weights[i] = t.third as u16;

@@ -10,7 +10,7 @@ use lib.Dec.{lit<, lit≤}
 use lib.Pow.{high, low, shr-shr}
 use Rattle.numbers.specs.Numbers.{Bytes, onto, numberAt}
 use Rattle.numbers.proofs.Numbers.{number-next}
-use Rattle.field.specs.Bits.{bit, fieldAt}
+use Rattle.field.specs.Bits.{bit, fieldAt, windowAt}
 
 pub bit-lt : (s : List ℕ) (j : ℕ) → bit s j < 2
 unfolding bit
@@ -72,9 +72,24 @@ unfolding onto fieldAt
 number-field s a zero b h = refl
 number-field s a (suc n) b h = rw (← add-one n) (number-next s a n (omega arith) ∙ rw (number-field s a n b (omega arith)) (sym (field-more s a n (b (a + n)))))
 
--- The field of w bits at bit a, out of the bytes that it stands in.
-pub field-out : (s : List ℕ) (a w : ℕ) → fieldAt s (8 * (a / 8)) (8 * ((a + w + 7) / 8 - a / 8)) / 2 ^ ((a + w + 7) / 8 * 8 - (a + w)) % 2 ^ w ≡ fieldAt s a w
-field-out s a w =
-    let n : 8 * ((a + w + 7) / 8 - a / 8) ≡ a % 8 + w + ((a + w + 7) / 8 * 8 - (a + w)) = omega arith in
-    let b : 8 * (a / 8) + a % 8 ≡ a = omega arith in
-    rw n (field-mid s (8 * (a / 8)) (a % 8) w ((a + w + 7) / 8 * 8 - (a + w)) ∙ ap (λ (k : ℕ). fieldAt s k w) b)
+-- The window of w bits at bit a, out of the bytes that it stands in.
+pub window-out : (s : List ℕ) (a w : ℕ)
+    → fieldAt s (8 * (a / 8)) (8 * ((a + w + 7) / 8 - a / 8)) / 2 ^ ((a + w + 7) / 8 * 8 - (a + w)) ≡ windowAt s a w
+unfolding windowAt
+window-out s a w =
+    let t : ℕ = (a + w + 7) / 8 * 8 - (a + w) in
+    let n : 8 * ((a + w + 7) / 8 - a / 8) ≡ a % 8 + w + t = omega arith in
+    rw (n, field-split s (8 * (a / 8)) (a % 8 + w) t)
+    (high (fieldAt s (8 * (a / 8)) (a % 8 + w)) t (field-lt s (8 * (a / 8) + (a % 8 + w)) t))
+
+-- The w bits of a window behind its first h and before its last t.
+pub window-field : (s : List ℕ) (a h w t : ℕ) → windowAt s a (h + w + t) / 2 ^ t % 2 ^ w ≡ fieldAt s (a + h) w
+unfolding windowAt
+window-field s a h w t =
+    let n : a % 8 + (h + w + t) ≡ a % 8 + h + w + t = omega arith in
+    let b : 8 * (a / 8) + (a % 8 + h) ≡ a + h = omega arith in
+    rw n (field-mid s (8 * (a / 8)) (a % 8 + h) w t ∙ ap (λ (k : ℕ). fieldAt s k w) b)
+
+-- The last w bits of a window behind its first h.
+pub window-last : (s : List ℕ) (a h w : ℕ) → windowAt s a (h + w) % 2 ^ w ≡ fieldAt s (a + h) w
+window-last s a h w = rw (add-zero (h + w), div-one) at (window-field s a h w 0)

@@ -3,11 +3,12 @@ use mathlib.Core.Path.{_≡_, refl, sym, ap, _∙_}
 use mathlib.Core.List.{List}
 use mathlib.Core.Logic.{_≢_}
 use Prim.Native.Nat.{ℕ, zero, suc, _+_, _-_, _*_, _/_, _%_, _^_, _≤_, _<_}
-use native.Mathlib.Nat.{add-mul, div-add-mod', mod-lt, pow-suc, div-lt-iff-lt-mul}
+use native.Mathlib.Nat.{add-zero, zero-mul, add-mul, div-add-mod', mod-lt, mod-le, mul-le-mul-right, div-mul-le-self, le-trans, pow-suc, div-one, div-lt-iff-lt-mul}
+use native.Mathlib.Numerals.{add-one}
 use native.Mathlib.Decide.{decLt, ℕ-discrete}
 use native.Mathlib.Omega.{arith}
 use lib.ListN.{length, getD, length-set}
-use lib.Seq.{getD-set-same, getD-set-other, ext-getD}
+use lib.Seq.{getD-set-same, getD-set-other, set-set, set-comm, ext-getD}
 use lib.Pow.{high, low, shr-shr, pow-pos, field, mod-mod-pow, pow-add}
 use Rattle.numbers.specs.Numbers.{Bytes}
 use Rattle.field.specs.Bits.{withBit, bit, fieldAt, setBit, putAt}
@@ -51,6 +52,17 @@ put-other x k b i hb ne = elim (decLt i k) [
       ap (λ (n : ℕ). n % 2) (bit-above (withBit x (2 ^ k) b) k i (omega arith)
       ∙ ap (λ (n : ℕ). n / 2 ^ (i - (k + 1))) (put-above x k b hb) ∙ sym (bit-above x k i (omega arith)))
 ]
+
+-- A bit's share of x.
+pub share : (x p : ℕ) → x / p % 2 * p ≤ x
+share x p = le-trans (mul-le-mul-right p (mod-le (x / p) 2)) (div-mul-le-self x p)
+
+-- Two bits may be set in either order.
+put-comm : (x k m b c : ℕ) → b < 2 → c < 2 → k ≢ m → withBit (withBit x (2 ^ k) b) (2 ^ m) c ≡ withBit (withBit x (2 ^ m) c) (2 ^ k) b
+put-comm x k m b c hb hc ne =
+    let other : (a : ℕ) → a < 2 → withBit x (2 ^ k) a / 2 ^ m % 2 ≡ x / 2 ^ m % 2 = λ a h. put-other x k a m h (λ e. ne (omega arith)) in
+    let both : x / 2 ^ m % 2 * 2 ^ m ≤ withBit x (2 ^ k) 0 = rw (← other 0 (omega arith)) (share (withBit x (2 ^ k) 0) (2 ^ m)) in
+    rw (other b hb, put-other x m c k hc ne) (omega (arith, both, share x (2 ^ k), zero-mul (2 ^ k)))
 
 -- A byte stays a byte.
 pub put-lt : (x k b : ℕ) → b < 2 → k ≤ 7 → x < 256 → withBit x (2 ^ k) b < 256
@@ -96,6 +108,20 @@ setBit-bytes s j b h hb B i = elim (ℕ-discrete i (j / 8)) [
   | no d ↦ rw (getD-set-other s (j / 8) i) (B i)
 ]
 
+-- Two bits may be set in either order.
+setBit-comm : (s : List ℕ) (i b j c : ℕ) → i < 8 * length s → j < 8 * length s → b < 2 → c < 2 → i ≢ j
+    → setBit (setBit s i b) j c ≡ setBit (setBit s j c) i b
+unfolding setBit
+setBit-comm s i b j c hi hj hb hc ne = elim (ℕ-discrete (i / 8) (j / 8)) [
+  | yes e ↦
+      let l : j / 8 < length s = omega arith in
+      let k : 7 - i % 8 ≢ 7 - j % 8 = omega arith in
+      rw (e, getD-set-same, getD-set-same, set-set, set-set, put-comm (getD s (j / 8) 0) (7 - i % 8) (7 - j % 8) b c hb hc k)
+  | no d ↦
+      let d′ : j / 8 ≢ i / 8 = λ e. d (sym e) in
+      rw (getD-set-other s (i / 8) (j / 8), getD-set-other s (j / 8) (i / 8)) (set-comm s (i / 8) (j / 8) _ _ d)
+]
+
 -- The length stays.
 pub length-putAt : (s : List ℕ) (a w v : ℕ) → length (putAt s a w v) ≡ length s
 unfolding putAt
@@ -104,6 +130,19 @@ length-putAt s a (suc w) v = length-setBit (putAt s a w (v / 2)) (a + w) (v % 2)
 
 room : (s : List ℕ) (a w v : ℕ) → a + suc w ≤ 8 * length s → a + w < 8 * length (putAt s a w v)
 room s a w v h = rw length-putAt (omega arith)
+
+-- A field of one bit more in front.
+pub putAt-front : (s : List ℕ) (a w v : ℕ) → a + suc w ≤ 8 * length s → setBit (putAt s (a + 1) w v) a (v / 2 ^ w % 2) ≡ putAt s a (w + 1) v
+unfolding putAt
+putAt-front s a zero v h = rw (div-one, add-zero)
+putAt-front s a (suc w) v h =
+    let e : a + 1 + w ≡ a + suc w = omega arith in
+    let d : v / 2 ^ suc w ≡ v / 2 / 2 ^ w = sym (shr-shr v 1 w ∙ ap (λ (n : ℕ). v / 2 ^ n) (omega arith)) in
+    let front : setBit (putAt s (a + 1) w (v / 2)) a (v / 2 ^ suc w % 2) ≡ putAt s a (suc w) (v / 2) =
+    rw d (putAt-front s a w (v / 2) (omega arith) ∙ ap (λ (n : ℕ). putAt s a n (v / 2)) (add-one w)) in
+    let r : a + 1 + w < 8 * length (putAt s (a + 1) w (v / 2)) = room s (a + 1) w (v / 2) (omega arith) in
+    setBit-comm (putAt s (a + 1) w (v / 2)) (a + 1 + w) (v % 2) a (v / 2 ^ suc w % 2) r (omega arith) (omega arith) (omega arith) (omega arith)
+    ∙ (λ i. setBit (front i) (e i) (v % 2)) ∙ ap (λ (n : ℕ). putAt s a n v) (sym (add-one (suc w)))
 
 -- Every bit outside of the field stays.
 pub putAt-other : (s : List ℕ) (a w v j : ℕ) → a + w ≤ 8 * length s → (a ≤ j → j < a + w → ⊥) → bit (putAt s a w v) j ≡ bit s j

@@ -12,6 +12,10 @@ unfoldable pub fieldAt : List ℕ → ℕ → ℕ → ℕ
 fieldAt s a zero = 0
 fieldAt s a (suc w) = 2 * fieldAt s a w + bit s (a + w)
 
+-- The number that the w bits from bit a spell behind those that stand before them in their first byte.
+unfoldable pub windowAt : List ℕ → ℕ → ℕ → ℕ
+windowAt s a w = fieldAt s (8 * (a / 8)) (a % 8 + w)
+
 -- The number x with the bit of weight p set to b.
 abbrev pub withBit : ℕ → ℕ → ℕ → ℕ
 withBit x p b = x - x / p % 2 * p + b * p

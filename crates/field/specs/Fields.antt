@@ -5,11 +5,18 @@ use Prim.Native.Nat.{ℕ, _+_, _*_, _^_, _≤_, _<_}
 use lib.ListN.{length}
 use Rattle.field.specs.Bits.{fieldAt, putAt}
 
--- The w bits from bit a lie inside the bytes s, make a number of 32 bits at most, and end by bit 65,536.
-pub record FieldInside (s : List ℕ) (a w : ℕ) : Type 0 where
-  pub narrow : w ≤ 32
+-- The w bits from bit a are at most `most`, lie inside the bytes s, and end by bit 65,536.
+pub record BitsInside (most : ℕ) (s : List ℕ) (a w : ℕ) : Type 0 where
+  pub narrow : w ≤ most
   pub within : a + w ≤ 8 * length s
   pub near : a + w ≤ 65536
+
+-- A field makes a number of 32 bits. A window makes one of 64, with up to seven bits before it.
+abbrev pub FieldInside : List ℕ → ℕ → ℕ → Type 0
+FieldInside = BitsInside 32
+
+abbrev pub WindowInside : List ℕ → ℕ → ℕ → Type 0
+WindowInside = BitsInside 57
 
 -- A field: a number and its width in bits.
 pub record Field : Type 0 where

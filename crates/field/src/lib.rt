@@ -1,29 +1,49 @@
 // Fields of bits in a slice of bytes, most significant bit first.
 ghost use mathlib.Core.Path.{_≡_};
-ghost use Prim.Native.Nat.{_+_, _-_, _*_, _^_, _≤_, _<_};
+ghost use Prim.Native.Nat.{_+_, _-_, _*_, _%_, _^_, _≤_, _<_};
 ghost use mathlib.Core.List.{[], _∷_};
 ghost use lib.ListN.{length};
-ghost use Rattle.field.specs.Bits.{fieldAt, setBit, putAt};
-ghost use Rattle.field.specs.Fields.{FieldInside, bits, putAll};
+ghost use Rattle.field.specs.Bits.{fieldAt, windowAt, withBit, setBit, putAt};
+ghost use Rattle.field.specs.Fields.{FieldInside, WindowInside, bits, putAll};
 
-// Two to the k, for widths up to 32.
-fn pow2(k: usize) -> u64
-    requires { ⌜ k ≤ 32 ⌝ }
-    ensures { λ r. ⌜ r ≡ 2 ^ k ⌝ }
-{
-    1u64 << k
-}
-
-// The field of width bits at bit at, out of the bytes that hold it: at most five.
-pub fn field_at(src: &[u8], at: usize, width: usize) -> u32
-    requires { ⌜ FieldInside (now src) at width ⌝ }
-    ensures { λ r. ⌜ r ≡ fieldAt (now (src .entry)) at width ⌝ }
+// The width bits from bit at on, behind the bits that stand before them in their first byte, as one number, out of at most eight bytes.
+pub fn window(src: &[u8], at: usize, width: usize) -> u64
+    requires { ⌜ WindowInside (now src) at width ⌝ }
+    ensures { λ r. ⌜ r ≡ windowAt (now (src .entry)) at width ⌝ }
 {
     let end = at + width;
     let first = at / 8;
     let last = (end + 7) / 8;
     let acc = numbers::read_number(src, first, last - first);
-    (acc / pow2(last * 8 - end) % pow2(width)) as u32
+    acc / powers::byte_pow2(last * 8 - end)
+}
+
+// The lowest width bits of x. A width below 8 that is known only when it runs, as that of a block's padding, takes the short way.
+fn lowest_bits(x: u64, width: usize) -> u64
+    requires { ⌜ width ≤ 32 ⌝ }
+    ensures { λ r. ⌜ r ≡ x % 2 ^ width ⌝ }
+{
+    if width < 8 {
+        x % powers::byte_pow2(width)
+    } else {
+        x % powers::pow2(width)
+    }
+}
+
+// The field of width bits at bit at.
+pub fn field_at(src: &[u8], at: usize, width: usize) -> u32
+    requires { ⌜ FieldInside (now src) at width ⌝ }
+    ensures { λ r. ⌜ r ≡ fieldAt (now (src .entry)) at width ⌝ }
+{
+    lowest_bits(window(src, at, width), width) as u32
+}
+
+// The byte x with the bit of weight p set to b.
+fn with_bit(x: u64, p: u64, b: u64) -> u64
+    requires { ⌜ (x < 256) × (0 < p) × (p ≤ 128) × (b < 2) ⌝ }
+    ensures { λ r. ⌜ r ≡ withBit x p b ⌝ }
+{
+    x - x / p % powers::pow2(1) * p + b * p
 }
 
 // Sets bit j to b.
@@ -32,9 +52,9 @@ fn put_bit(dst: &mut [u8], j: usize, b: u64)
     ensures { λ _. ⌜ now (dst .exit) ≡ setBit (now (dst .entry)) j b ⌝ }
 {
     let i = j / 8;
-    let p = pow2(7 - j % 8);
+    let p = powers::byte_pow2(7 - j % 8);
     let x = numbers::wide(dst[i]);
-    dst[i] = (x - x / p % 2 * p + b * p) as u8;
+    dst[i] = with_bit(x, p, b) as u8;
 }
 
 // Sets the width bits from bit at to the lowest width bits of value; every other bit stays.
@@ -42,9 +62,13 @@ pub fn put_field(dst: &mut [u8], at: usize, width: usize, value: u32)
     requires { ⌜ FieldInside (now dst) at width ⌝ }
     ensures { λ _. ⌜ now (dst .exit) ≡ putAt (now (dst .entry)) at width value ⌝ }
 {
-    let v = value as u64;
-    for k in 0..width {
-        put_bit(dst, at + k, v / pow2(width - 1 - k) % 2);
+    let two = powers::pow2(1);
+    let mut x = value as u64;
+    let mut i = width;
+    while 0 < i {
+        i -= 1;
+        put_bit(dst, at + i, x % two);
+        x = x / two;
     }
 }
 

@@ -1,8 +1,8 @@
-// A reader that refers to a sheet and knows its next bit, with thin functions over it, and two above them with plain parameters.
+// A reader that refers to a sheet and knows its next bit, with thin functions over it, and three above them with plain parameters.
 ghost use mathlib.Core.Path.{_≡_};
 ghost use Prim.Native.Nat.{_+_, _<_, _^_};
-ghost use Rattle.field.specs.Bits.{fieldAt};
-ghost use Rattle.field.specs.Fields.{FieldInside};
+ghost use Rattle.field.specs.Bits.{fieldAt, windowAt};
+ghost use Rattle.field.specs.Fields.{FieldInside, WindowInside};
 ghost use Rattle.reader.specs.Fields.{threeAt};
 
 pub struct Reader<'a> {
@@ -60,6 +60,15 @@ pub fn one(src: &[u8], at: usize, width: usize) -> u32
 {
     let r = from_bit(src, at);
     take(r, width)
+}
+
+// The window of width bits at bit at, through a reader.
+pub fn window(src: &[u8], at: usize, width: usize) -> u64
+    requires { ⌜ WindowInside (now src) at width ⌝ }
+    ensures { λ r. ⌜ r ≡ windowAt (now (src .entry)) at width ⌝ }
+{
+    let r = from_bit(src, at);
+    field::window(r.src, r.at, width)
 }
 
 // Three fields in a row from bit at, of a, b and c bits, through one reader.

@@ -54,8 +54,8 @@ unfolding row
 loop-holds c = (omega arith, c .zero-component .ensures)
 
 -- An interval's fields fit.
-fit : (c : tie.After-three Inv-loop μ-loop) → (c .three .result .first < 2 ^ 16) × (c .three .result .second < 2 ^ 16) × (c .three .result .third < 2 ^ 16)
-fit c = narrow _ _ speedBits speedBits weightBits (c .three .result) (lit≤ tt) (lit≤ tt) (lit≤ tt) (c .three .ensures)
+fit : (c : tie.After-read-interval Inv-loop μ-loop) → (c .read-interval .result .first < 2 ^ 16) × (c .read-interval .result .second < 2 ^ 16) × (c .read-interval .result .third < 2 ^ 16)
+fit c = narrow _ _ speedBits speedBits weightBits (c .read-interval .result) (lit≤ tt) (lit≤ tt) (lit≤ tt) (c .read-interval .ensures)
 
 cast-c : tie.Need-cast-c Inv-loop μ-loop
 cast-c c = record { fits = fit (c .before) .0 }
@@ -71,7 +71,7 @@ loop-again c =
     let read = c .before .before .before in
     let place = read .before in
     let l = place .before .before .loop in
-    (omega arith, turn _ (l .i) _ (l .c) (read .three .result) (l .inv .1) (place .interval-place .ensures) (read .three .ensures))
+    (omega arith, turn _ (l .i) _ (l .c) (read .read-interval .result) (l .inv .1) (place .interval-place .ensures) (read .read-interval .ensures))
 
 returns : tie.Need-returns Inv-loop μ-loop
 returns c =

@@ -65,7 +65,7 @@ module _ {M : Type 1} (𝓤 : URA M) (H : Heap 𝓤) (A : Atoms 𝓤) (W : Given
       use1 W (‵ (OwnSlice κ s) ⊛ ‵ (OwnSlice κ s)) (shr-slice-copy 𝓤 H A W (named 0) κ u8 .twice s (sliceOf s ∷ [])) $
       split ! $ move ! (0 ∷ 2 ∷ []) $ fjoin ! $ frame ! $
       -- [what src owns]: what the fields own together, of it and of at's facts, is what the struct owns.
-      nothing ! $ number ! n fits $ move ! (1 ∷ 0 ∷ []) $ fjoin ! $ by ! (own-shut 𝓤 H A W (T.the-type α) (T′.the-laws α) (s, (n, tt)))
+      nothing ! $ number ! w64 n fits $ move ! (1 ∷ 0 ∷ []) $ fjoin ! $ by ! (own-shut 𝓤 H A W (T.the-type α) (T′.the-laws α) (s, (n, tt)))
 
   module _ (C : Calls 𝓤 H) (Λ : Loops 𝓤 H) where
     walk : Is (ShrSlice (named 0) κ u8) s (sliceOf s ∷ [])
