@@ -7,7 +7,8 @@ ghost use lib.ListN.{length};
 ghost use Rattle.field.specs.Fields.{WindowInside, putAll};
 ghost use Rattle.reader.specs.Fields.{threeAt};
 ghost use Rattle.theory.specs.Limits.{mostHeld};
-ghost use Rattle.block.specs.Block.{speedBits, weightBits, intervalBits, placeOf, sizeOf, componentOf, zeroComponent, noBlock, blockIn, intervalsOf, fieldsOf};
+ghost use Rattle.block.specs.Block.{speedBits, weightBits, intervalBits, placeOf, sizeOf, paddingOf, componentOf, zeroComponent};
+ghost use Rattle.block.specs.Block.{noBlock, blockIn, intervalsOf, fieldsOf};
 use reader::Triple;
 use theory::Component;
 use theory::MOST_HELD;
@@ -52,6 +53,14 @@ pub fn block_size(k: usize) -> usize
     ensures { λ r. ⌜ r ≡ sizeOf k ⌝ }
 {
     (interval_place(k) + 7) / 8
+}
+
+// The zero bits behind the last of k intervals, up to the byte: fewer than 8, which the compiler sees in this form.
+fn padding_bits(k: usize) -> usize
+    requires { ⌜ k ≤ mostHeld ⌝ }
+    ensures { λ r. ⌜ r ≡ paddingOf k ⌝ }
+{
+    (8 - interval_place(k) % 8) % 8
 }
 
 // The component of zeros.
@@ -138,8 +147,7 @@ pub fn read_block(part: &[u8]) -> Block
     if part.len() < size {
         return no_block();
     }
-    let end = interval_place(k);
-    let padding = reader::one(part, end, 8 * size - end);
+    let padding = reader::one(part, interval_place(k), padding_bits(k));
     let c = read_component(part, k, head.third as u16);
     Block {
         cut: false,
@@ -187,5 +195,5 @@ pub fn write_block(dst: &mut [u8], c: Component)
         c.total as u32,
     );
     put_intervals(dst, c);
-    field::put_field(dst, end, 8 * block_size(k) - end, 0);
+    field::put_field(dst, end, padding_bits(k), 0);
 }
