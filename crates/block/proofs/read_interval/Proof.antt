@@ -1,5 +1,5 @@
 -- `block::read_interval` meets its contract: each field is a part of the interval's window. Assumes nothing.
-use mathlib.Core.Path.{_≡_, ap, _∙_}
+use mathlib.Core.Path.{_≡_}
 use mathlib.Core.List.{List}
 use Prim.Native.Nat.{ℕ, _+_, _/_, _%_, _^_, _<_, _≤_}
 use native.Mathlib.Nat.{lt-of-lt-of-le}

@@ -1,5 +1,4 @@
 -- `field::field_at` meets its contract: the field is the lowest bits of its window. Assumes nothing.
-use borrow.Author.Needs.{needs}
 use mathlib.Core.Path.{_≡_}
 use Prim.Native.Nat.{_+_}
 use native.Mathlib.Nat.{lt-of-lt-of-le}

@@ -1,6 +1,5 @@
 -- `field::lowest_bits` meets its contract on both ways. Assumes nothing.
 use borrow.Author.Needs.{needs}
-use Prim.Native.Nat.{_%_}
 use native.Mathlib.Omega.{arith}
 use lib.Pow.{pow-pos}
 use Rattle.field.proofs.lowest_bits.Statement.{statement}

@@ -1,6 +1,5 @@
 -- `field::window` meets its contract: the bytes that hold the bits spell a number, and the bits behind the window are divided away. Assumes nothing.
 use borrow.Author.Needs.{needs}
-use mathlib.Core.Path.{_≡_}
 use Prim.Native.Nat.{_+_, _-_, _/_, _<_}
 use native.Mathlib.Omega.{arith}
 use lib.Pow.{pow-pos}
