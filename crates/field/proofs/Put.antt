@@ -3,7 +3,8 @@ use mathlib.Core.Path.{_≡_, refl, sym, ap, _∙_}
 use mathlib.Core.List.{List}
 use mathlib.Core.Logic.{_≢_}
 use Prim.Native.Nat.{ℕ, zero, suc, _+_, _-_, _*_, _/_, _%_, _^_, _≤_, _<_}
-use native.Mathlib.Nat.{add-zero, zero-mul, add-mul, div-add-mod', mod-lt, mod-le, mul-le-mul-right, div-mul-le-self, le-trans, pow-suc, div-one, div-lt-iff-lt-mul}
+use native.Mathlib.Nat.{add-zero, zero-mul, add-mul, div-add-mod', mod-lt, mod-le, mul-le-mul-right, div-mul-le-self, le-trans}
+use native.Mathlib.Nat.{pow-suc, div-one, div-lt-iff-lt-mul}
 use native.Mathlib.Numerals.{add-one}
 use native.Mathlib.Decide.{decLt, ℕ-discrete}
 use native.Mathlib.Omega.{arith}

@@ -11,7 +11,7 @@ pub record BitsInside (most : ℕ) (s : List ℕ) (a w : ℕ) : Type 0 where
   pub within : a + w ≤ 8 * length s
   pub near : a + w ≤ 65536
 
--- A field makes a number of 32 bits. A window makes one of 64, with up to seven bits before it.
+-- A field has at most 32 bits; a window at most 57, which eight bytes hold with up to seven before them.
 abbrev pub FieldInside : List ℕ → ℕ → ℕ → Type 0
 FieldInside = BitsInside 32
 

@@ -54,7 +54,8 @@ unfolding row
 loop-holds c = (omega arith, c .zero-component .ensures)
 
 -- An interval's fields fit.
-fit : (c : tie.After-read-interval Inv-loop μ-loop) → (c .read-interval .result .first < 2 ^ 16) × (c .read-interval .result .second < 2 ^ 16) × (c .read-interval .result .third < 2 ^ 16)
+fit : (c : tie.After-read-interval Inv-loop μ-loop)
+    → (let t = c .read-interval .result in (t .first < 2 ^ 16) × (t .second < 2 ^ 16) × (t .third < 2 ^ 16))
 fit c = narrow _ _ speedBits speedBits weightBits (c .read-interval .result) (lit≤ tt) (lit≤ tt) (lit≤ tt) (c .read-interval .ensures)
 
 cast-c : tie.Need-cast-c Inv-loop μ-loop

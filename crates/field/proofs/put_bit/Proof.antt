@@ -18,7 +18,8 @@ cast-dst : tie.Need-cast-dst
 cast-dst c =
     let power = c .before .before .before in
     let a = power .before .before .args in
-    record { fits = rw (c .with-bit .ensures, power .byte-pow2 .ensures) (put-lt _ (7 - a .j % 8) (a .b) (omega arith) (omega arith) (c .before .wide .ensures .1)) }
+    let byte = put-lt (c .before .wide .result) (7 - a .j % 8) (a .b) (omega arith) (omega arith) (c .before .wide .ensures .1) in
+    record { fits = rw (c .with-bit .ensures, power .byte-pow2 .ensures) byte }
 
 returns : tie.Need-returns
 unfolding setBit

@@ -52,5 +52,5 @@ returns c =
 
 pub read-number-spec : {M : Type 1} → statement M
 read-number-spec =
-    tie.close (tie.spec Inv-loop μ-loop (λ c κs. search needs) (λ c. omega arith) loop-holds mul-acc (λ c. omega arith) (λ c κs. search needs) add-acc (λ c. omega arith)
-    (λ c. omega arith) loop-again returns)
+    tie.close (tie.spec Inv-loop μ-loop (λ c κs. search needs) (λ c. omega arith) loop-holds mul-acc (λ c. omega arith) (λ c κs. search needs)
+    add-acc (λ c. omega arith) (λ c. omega arith) loop-again returns)

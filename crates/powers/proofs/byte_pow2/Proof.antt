@@ -21,7 +21,8 @@ returns-8 : tie.Need-returns-8
 returns-8 c =
     let k = c .before .before .args .k in
     let n = c .before .match .rest in
-    entry _ 7 _ (c .pow28 .ensures) (last k (c .before .before .pre) (from-4 k (n .0 .0 .0 .0 .0 .0 .1) (n .0 .0 .0 .0 .0 .1) (n .0 .0 .0 .0 .1) (n .0 .0 .0 .1)) (n .0 .0 .1) (n .0 .1) (n .1))
+    let upper : 4 ≤ k = from-4 k (n .0 .0 .0 .0 .0 .0 .1) (n .0 .0 .0 .0 .0 .1) (n .0 .0 .0 .0 .1) (n .0 .0 .0 .1) in
+    entry _ 7 _ (c .pow28 .ensures) (last k (c .before .before .pre) upper (n .0 .0 .1) (n .0 .1) (n .1))
 
 pub byte-pow2-spec : {M : Type 1} → statement M
 byte-pow2-spec =
