@@ -3,14 +3,12 @@ use mathlib.Core.Path.{_≡_, refl, sym, ap, _∙_}
 use mathlib.Core.Bool.{Bool, true, false, _||_, true≢false}
 use mathlib.Core.List.{List}
 use Prim.Native.Nat.{ℕ, _+_, _^_, _≤_, _<_}
-use native.Mathlib.Nat.{lt-of-lt-of-le}
 use native.Mathlib.Omega.{arith}
 use borrow.Author.Tests.{le-ltb, ltb-false}
 use lib.Dec.{ltb}
 use lib.ListN.{length}
-use lib.Pow.{pow-mono}
 use Rattle.field.specs.Bits.{fieldAt}
-use Rattle.field.proofs.Field.{field-lt}
+use Rattle.field.proofs.Field.{field-below}
 use Rattle.reader.specs.Fields.{threeAt}
 use Rattle.reader.specs.declared.Triple.{Triple}
 use Rattle.theory.specs.Limits.{mostHeld}
@@ -23,8 +21,7 @@ use Rattle.block.proofs.Rows.{row-ext, row-used}
 pub narrow : (s : List ℕ) (p a b c : ℕ) (t : Triple) → a ≤ 16 → b ≤ 16 → c ≤ 16 → t ≡ threeAt s p a b c
     → (t .first < 2 ^ 16) × (t .second < 2 ^ 16) × (t .third < 2 ^ 16)
 narrow s p a b c t i j k e =
-    let fits : (q w : ℕ) → w ≤ 16 → fieldAt s q w < 2 ^ 16 = λ q w l. lt-of-lt-of-le (field-lt s q w) (pow-mono l) in
-    rw e (fits p a i, fits (p + a) b j, fits (p + a + b) c k)
+    rw e (field-below s p a 16 i, field-below s (p + a) b 16 j, field-below s (p + a + b) c 16 k)
 
 pub neither : (a b : Bool) → (a || b) ≡ false → (a ≡ false) × (b ≡ false)
 neither true b e = absurd (true≢false e)

@@ -55,7 +55,7 @@ pub fn block_size(k: usize) -> usize
     (interval_place(k) + 7) / 8
 }
 
-// The zero bits behind the last of k intervals, up to the byte: fewer than 8, which the compiler sees in this form.
+// How many zero bits stand behind the last of k intervals, up to the byte: fewer than 8, which the compiler sees in this form.
 fn padding_bits(k: usize) -> usize
     requires { ⌜ k ≤ mostHeld ⌝ }
     ensures { λ r. ⌜ r ≡ paddingOf k ⌝ }
@@ -94,14 +94,14 @@ fn read_interval(part: &[u8], place: usize) -> Triple
     requires { ⌜ WindowInside (now part) place intervalBits ⌝ }
     ensures { λ r. ⌜ r ≡ threeAt (now (part .entry)) place speedBits speedBits weightBits ⌝ }
 {
-    let w = reader::window(part, place, INTERVAL_BITS);
+    let bits = reader::window(part, place, INTERVAL_BITS);
     let speed_size = powers::pow2(SPEED_BITS);
     let weight_size = powers::pow2(WEIGHT_BITS);
-    let both_size = powers::pow2(SPEED_BITS + WEIGHT_BITS);
+    let high_weight_size = powers::pow2(SPEED_BITS + WEIGHT_BITS);
     Triple {
-        first: (w / both_size % speed_size) as u32,
-        second: (w / weight_size % speed_size) as u32,
-        third: (w % weight_size) as u32,
+        first: (bits / high_weight_size % speed_size) as u32,
+        second: (bits / weight_size % speed_size) as u32,
+        third: (bits % weight_size) as u32,
     }
 }
 

@@ -1,15 +1,13 @@
 -- What the reader reads fits numbers of 16 bits. Assumes nothing.
-use Prim.Native.Nat.{ℕ, zero, suc, _+_, _*_, _≤_}
+use Prim.Native.Nat.{ℕ, zero, suc, _+_, _*_}
 use mathlib.Core.Path.{refl}
 use mathlib.Core.List.{List}
-use native.Mathlib.Omega.{arith}
 use lib.Dec.{lit≤}
-use native.Mathlib.Nat.{lt-of-lt-of-le, pow-le-pow-right}
 use Rattle.theory.specs.Limits.{mostHeld, mostComponents, mostEntries, entryCount}
 use Rattle.theory.specs.Sums.{Every, more}
 use Rattle.theory.proofs.Every.{every-replicate, every-append}
 use Rattle.field.specs.Bits.{fieldAt}
-use Rattle.field.proofs.Field.{field-lt}
+use Rattle.field.proofs.Field.{field-below}
 use Rattle.block.specs.Rows.{row}
 use Rattle.block.specs.Block.{countBits, zeroBits, totalBits, speedBits, weightBits, placeOf, countIn, intervalIn, componentOf, componentIn, zeroComponent}
 use Rattle.block.proofs.Rows.{length-row, row-every}
@@ -18,9 +16,6 @@ use Rattle.plan.specs.Plan.{zeroPlan}
 use Rattle.plan.specs.Tests.{firstBroken}
 use Rattle.reading.specs.Reading.{sheetTests, readOf, reading, planIn, componentCount, blockAt, structurePlace}
 use Rattle.wire.proofs.RoundTrip.{Word, ComponentFits, PlanFits}
-
-short-field : (s : List ℕ) (a w : ℕ) → w ≤ 16 → Word (fieldAt s a w)
-short-field s a w h = lt-of-lt-of-le (field-lt s a w) (pow-le-pow-right {n = 2} (omega arith) h)
 
 block-fits : (s : List ℕ) → ComponentFits (componentIn s)
 unfolding componentOf
@@ -31,10 +26,10 @@ block-fits s =
       highs = length-row 0 mostHeld (λ i. (intervalIn s i) .high) (countIn s);
       weights = length-row 0 mostHeld (λ i. (intervalIn s i) .weight) (countIn s);
       short =
-          more (short-field s 0 countBits (lit≤ tt)) (more (short-field s (countBits + zeroBits) totalBits (lit≤ tt))
-          (every-append (row-fits (λ i. (intervalIn s i) .low) (λ i. short-field s (placeOf i) speedBits (lit≤ tt)))
-          (every-append (row-fits (λ i. (intervalIn s i) .high) (λ i. short-field s (placeOf i + speedBits) speedBits (lit≤ tt)))
-          (row-fits (λ i. (intervalIn s i) .weight) (λ i. short-field s (placeOf i + speedBits + speedBits) weightBits (lit≤ tt))))));
+          more (field-below s 0 countBits 16 (lit≤ tt)) (more (field-below s (countBits + zeroBits) totalBits 16 (lit≤ tt))
+          (every-append (row-fits (λ i. (intervalIn s i) .low) (λ i. field-below s (placeOf i) speedBits 16 (lit≤ tt)))
+          (every-append (row-fits (λ i. (intervalIn s i) .high) (λ i. field-below s (placeOf i + speedBits) speedBits 16 (lit≤ tt)))
+          (row-fits (λ i. (intervalIn s i) .weight) (λ i. field-below s (placeOf i + speedBits + speedBits) weightBits 16 (lit≤ tt))))));
     }
 
 zero-component-fits : ComponentFits zeroComponent
@@ -58,9 +53,9 @@ sheet-plan-fits s =
       each = row-every zeroComponent mostComponents (λ i. componentIn (blockAt s i)) n zero-component-fits (λ i. block-fits (blockAt s i));
       entries = length-row 0 mostEntries (λ j. fieldAt s (structurePlace s + entryBits * j) entryBits) (entryCount n);
       short = (
-        short-field s editionBits componentCountBits (lit≤ tt),
+        field-below s editionBits componentCountBits 16 (lit≤ tt),
         row-every 0 mostEntries (λ j. fieldAt s (structurePlace s + entryBits * j) entryBits) (entryCount n) (lit≤ tt)
-            (λ j. short-field s (structurePlace s + entryBits * j) entryBits (lit≤ tt)),
+            (λ j. field-below s (structurePlace s + entryBits * j) entryBits 16 (lit≤ tt)),
       );
     }
 

@@ -2,12 +2,12 @@
 use mathlib.Core.Path.{_≡_, refl, sym, ap, _∙_}
 use mathlib.Core.List.{List}
 use Prim.Native.Nat.{ℕ, zero, suc, _+_, _-_, _*_, _/_, _%_, _^_, _≤_, _<_}
-use native.Mathlib.Nat.{add-zero, add-suc, mul-assoc, pow-suc, mod-lt, add-assoc, div-eq-of-lt, div-one}
+use native.Mathlib.Nat.{add-zero, add-suc, mul-assoc, pow-suc, mod-lt, lt-of-lt-of-le, add-assoc, div-eq-of-lt, div-one}
 use native.Mathlib.Omega.{arith}
 use native.Mathlib.Numerals.{add-one}
 use lib.ListN.{length, getD}
 use lib.Dec.{lit<, lit≤}
-use lib.Pow.{high, low, shr-shr}
+use lib.Pow.{high, low, shr-shr, pow-mono}
 use Rattle.numbers.specs.Numbers.{Bytes, onto, numberAt}
 use Rattle.numbers.proofs.Numbers.{number-next}
 use Rattle.field.specs.Bits.{bit, fieldAt, windowAt}
@@ -21,6 +21,10 @@ pub field-lt : (s : List ℕ) (a w : ℕ) → fieldAt s a w < 2 ^ w
 unfolding fieldAt
 field-lt s a zero = lit< tt
 field-lt s a (suc w) = rw pow-suc (omega (arith, field-lt s a w, bit-lt s (a + w)))
+
+-- A field of at most n bits is below two to the n.
+pub field-below : (s : List ℕ) (a w n : ℕ) → w ≤ n → fieldAt s a w < 2 ^ n
+field-below s a w n h = lt-of-lt-of-le (field-lt s a w) (pow-mono h)
 
 -- A field of u + v bits is the first u bits, then the v after them.
 pub field-split : (s : List ℕ) (a u v : ℕ) → fieldAt s a (u + v) ≡ fieldAt s a u * 2 ^ v + fieldAt s (a + u) v

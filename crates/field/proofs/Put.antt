@@ -54,16 +54,16 @@ put-other x k b i hb ne = elim (decLt i k) [
       ∙ ap (λ (n : ℕ). n / 2 ^ (i - (k + 1))) (put-above x k b hb) ∙ sym (bit-above x k i (omega arith)))
 ]
 
--- A bit's share of x.
-pub share : (x p : ℕ) → x / p % 2 * p ≤ x
-share x p = le-trans (mul-le-mul-right p (mod-le (x / p) 2)) (div-mul-le-self x p)
+-- A bit's part of x.
+pub bit-part : (x p : ℕ) → x / p % 2 * p ≤ x
+bit-part x p = le-trans (mul-le-mul-right p (mod-le (x / p) 2)) (div-mul-le-self x p)
 
--- Two bits may be set in either order.
+-- Two bits of a number may be set in either order.
 put-comm : (x k m b c : ℕ) → b < 2 → c < 2 → k ≢ m → withBit (withBit x (2 ^ k) b) (2 ^ m) c ≡ withBit (withBit x (2 ^ m) c) (2 ^ k) b
 put-comm x k m b c hb hc ne =
     let other : (a : ℕ) → a < 2 → withBit x (2 ^ k) a / 2 ^ m % 2 ≡ x / 2 ^ m % 2 = λ a h. put-other x k a m h (λ e. ne (omega arith)) in
-    let both : x / 2 ^ m % 2 * 2 ^ m ≤ withBit x (2 ^ k) 0 = rw (← other 0 (omega arith)) (share (withBit x (2 ^ k) 0) (2 ^ m)) in
-    rw (other b hb, put-other x m c k hc ne) (omega (arith, both, share x (2 ^ k), zero-mul (2 ^ k)))
+    let both : x / 2 ^ m % 2 * 2 ^ m ≤ withBit x (2 ^ k) 0 = rw (← other 0 (omega arith)) (bit-part (withBit x (2 ^ k) 0) (2 ^ m)) in
+    rw (other b hb, put-other x m c k hc ne) (omega (arith, both, bit-part x (2 ^ k), zero-mul (2 ^ k)))
 
 -- A byte stays a byte.
 pub put-lt : (x k b : ℕ) → b < 2 → k ≤ 7 → x < 256 → withBit x (2 ^ k) b < 256
@@ -109,7 +109,7 @@ setBit-bytes s j b h hb B i = elim (ℕ-discrete i (j / 8)) [
   | no d ↦ rw (getD-set-other s (j / 8) i) (B i)
 ]
 
--- Two bits may be set in either order.
+-- Two bits of bytes may be set in either order.
 setBit-comm : (s : List ℕ) (i b j c : ℕ) → i < 8 * length s → j < 8 * length s → b < 2 → c < 2 → i ≢ j
     → setBit (setBit s i b) j c ≡ setBit (setBit s j c) i b
 unfolding setBit

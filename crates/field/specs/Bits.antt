@@ -12,7 +12,7 @@ unfoldable pub fieldAt : List ℕ → ℕ → ℕ → ℕ
 fieldAt s a zero = 0
 fieldAt s a (suc w) = 2 * fieldAt s a w + bit s (a + w)
 
--- The number that the w bits from bit a spell behind those that stand before them in their first byte.
+-- The number that the w bits from bit a spell behind the a % 8 bits that stand before them in the same byte.
 unfoldable pub windowAt : List ℕ → ℕ → ℕ → ℕ
 windowAt s a w = fieldAt s (8 * (a / 8)) (a % 8 + w)
 

@@ -5,16 +5,17 @@ use Prim.Native.Nat.{ℕ, _+_, _*_, _^_, _≤_, _<_}
 use lib.ListN.{length}
 use Rattle.field.specs.Bits.{fieldAt, putAt}
 
--- The w bits from bit a are at most `most`, lie inside the bytes s, and end by bit 65,536.
+-- The w bits from bit a, at most `most`, lie inside the bytes s and end by bit 65,536.
 pub record BitsInside (most : ℕ) (s : List ℕ) (a w : ℕ) : Type 0 where
   pub narrow : w ≤ most
   pub within : a + w ≤ 8 * length s
   pub near : a + w ≤ 65536
 
--- A field has at most 32 bits; a window at most 57, which eight bytes hold with up to seven before them.
+-- A field: a number of 32 bits.
 abbrev pub FieldInside : List ℕ → ℕ → ℕ → Type 0
 FieldInside = BitsInside 32
 
+-- A window: with up to seven bits before it, a number of 64.
 abbrev pub WindowInside : List ℕ → ℕ → ℕ → Type 0
 WindowInside = BitsInside 57
 

@@ -1,12 +1,12 @@
 // Fields of bits in a slice of bytes, most significant bit first.
 ghost use mathlib.Core.Path.{_≡_};
-ghost use Prim.Native.Nat.{_+_, _-_, _*_, _%_, _^_, _≤_, _<_};
+ghost use Prim.Native.Nat.{_+_, _*_, _%_, _^_, _≤_, _<_};
 ghost use mathlib.Core.List.{[], _∷_};
 ghost use lib.ListN.{length};
 ghost use Rattle.field.specs.Bits.{fieldAt, windowAt, withBit, setBit, putAt};
 ghost use Rattle.field.specs.Fields.{FieldInside, WindowInside, bits, putAll};
 
-// The width bits from bit at on, behind the bits that stand before them in their first byte, as one number, out of at most eight bytes.
+// The window of width bits at bit at: those bits behind the ones before them in their first byte, out of at most eight bytes.
 pub fn window(src: &[u8], at: usize, width: usize) -> u64
     requires { ⌜ WindowInside (now src) at width ⌝ }
     ensures { λ r. ⌜ r ≡ windowAt (now (src .entry)) at width ⌝ }
@@ -18,7 +18,7 @@ pub fn window(src: &[u8], at: usize, width: usize) -> u64
     acc / powers::byte_pow2(last * 8 - end)
 }
 
-// The lowest width bits of x. A width below 8 that is known only when it runs, as that of a block's padding, takes the short way.
+// The lowest width bits of x. A padding's width is known only when it runs; it is below 8 and takes one of eight fixed entries.
 fn lowest_bits(x: u64, width: usize) -> u64
     requires { ⌜ width ≤ 32 ⌝ }
     ensures { λ r. ⌜ r ≡ x % 2 ^ width ⌝ }

@@ -5,9 +5,6 @@ ghost use Prim.Native.Nat.{_+_, _≤_, _<_};
 ghost use lib.ListN.{length, take, drop};
 ghost use Rattle.numbers.specs.Numbers.{bigEndian, numberAt};
 
-// The width of a byte.
-const BYTE_BITS: usize = 8;
-
 // A byte as a number.
 pub fn wide(x: u8) -> u64
     ensures { λ r. ⌜ (r ≡ x) × (r < 256) ⌝ }
@@ -28,7 +25,7 @@ pub fn read_number(s: &[u8], at: usize, n: usize) -> u64
     requires { ⌜ n ≤ 8 ⌝ }
     ensures { λ r. ⌜ r ≡ numberAt (now (s .entry)) at n ⌝ }
 {
-    let base = powers::pow2(BYTE_BITS);
+    let base = powers::pow2(8);
     let end = at + n;
     let mut acc: u64 = 0;
     let mut i = at;

@@ -2,14 +2,12 @@
 use mathlib.Core.Path.{_≡_}
 use mathlib.Core.List.{List}
 use Prim.Native.Nat.{ℕ, _+_, _/_, _%_, _^_, _<_, _≤_}
-use native.Mathlib.Nat.{lt-of-lt-of-le}
 use native.Mathlib.Omega.{arith}
 use borrow.Author.Needs.{needs}
 use lib.Dec.{lit≤}
-use lib.Pow.{pow-mono}
 use denote.Ref.{now}
 use Rattle.field.specs.Bits.{windowAt, fieldAt}
-use Rattle.field.proofs.Field.{field-lt, window-field, window-last}
+use Rattle.field.proofs.Field.{field-below, window-field, window-last}
 use Rattle.block.specs.Block.{speedBits, weightBits, intervalBits}
 use Rattle.block.proofs.read_interval.Statement.{statement}
 use Rattle.block.proofs.read_interval.Tie as tie
@@ -39,7 +37,7 @@ here c =
 
 -- A field fits 32 bits.
 fits : (s : List ℕ) (p w x : ℕ) → w ≤ 32 → x ≡ fieldAt s p w → x < 2 ^ 32
-fits s p w x h e = rw e (lt-of-lt-of-le (field-lt s p w) (pow-mono h))
+fits s p w x h e = rw e (field-below s p w 32 h)
 
 pub read-interval-spec : {M : Type 1} → statement M
 read-interval-spec =

@@ -1,12 +1,10 @@
 -- `field::field_at` meets its contract: the field is the lowest bits of its window. Assumes nothing.
 use mathlib.Core.Path.{_≡_}
 use Prim.Native.Nat.{_+_}
-use native.Mathlib.Nat.{lt-of-lt-of-le}
 use native.Mathlib.Omega.{arith}
-use lib.Pow.{pow-mono}
 use denote.Ref.{now}
 use Rattle.field.specs.Bits.{fieldAt}
-use Rattle.field.proofs.Field.{field-lt, window-last}
+use Rattle.field.proofs.Field.{field-below, window-last}
 use Rattle.field.proofs.field_at.Statement.{statement}
 use Rattle.field.proofs.field_at.Tie as tie
 
@@ -26,7 +24,7 @@ cast-result : tie.Need-cast-result
 cast-result c =
     let s = c .before .before .before in
     let a = s .args in
-    record { fits = rw (got c) (lt-of-lt-of-le (field-lt (now (a .src)) (a .at) (a .width)) (pow-mono (s .pre .narrow))) }
+    record { fits = rw (got c) (field-below (now (a .src)) (a .at) (a .width) 32 (s .pre .narrow)) }
 
 pub field-at-spec : {M : Type 1} → statement M
 field-at-spec = tie.close (tie.spec window-requires (λ c κs. c .before .before .pre .narrow) cast-result got)

@@ -9,6 +9,9 @@ use Rattle.field.proofs.Field.{window-out, number-field}
 use Rattle.field.proofs.window.Statement.{statement}
 use Rattle.field.proofs.window.Tie as tie
 
+byte-pow2-requires : tie.Need-byte-pow2-requires
+byte-pow2-requires c κs = search needs
+
 div-result : tie.Need-div-result
 div-result c =
     let positive : 0 < c .byte-pow2 .result = rw (c .byte-pow2 .ensures) (pow-pos _) in
@@ -28,4 +31,4 @@ returns c =
 pub window-spec : {M : Type 1} → statement M
 window-spec =
     tie.close (tie.spec (λ c. search needs) (λ c. search needs) (λ c. search needs) (λ c κs. search needs) (λ c. search needs)
-    (λ c. search needs) (λ c κs. search needs) div-result returns)
+    (λ c. search needs) byte-pow2-requires div-result returns)

@@ -3,7 +3,7 @@ use borrow.Author.Needs.{needs}
 use Prim.Native.Nat.{ℕ, _*_, _/_, _%_, _≤_, _<_}
 use native.Mathlib.Nat.{mul-le-mul-right, one-mul}
 use native.Mathlib.Omega.{arith}
-use Rattle.field.proofs.Put.{share}
+use Rattle.field.proofs.Put.{bit-part}
 use Rattle.field.proofs.with_bit.Statement.{statement}
 use Rattle.field.proofs.with_bit.Tie as tie
 
@@ -19,7 +19,7 @@ mul-result c =
     rw (c .pow2 .ensures) (omega (arith, once (a .x / a .p % 2) (a .p) (omega arith)))
 
 sub-result : tie.Need-sub-result
-sub-result c = rw (c .pow2 .ensures) (share (c .before .args .x) (c .before .args .p))
+sub-result c = rw (c .pow2 .ensures) (bit-part (c .before .args .x) (c .before .args .p))
 
 mul-result-2 : tie.Need-mul-result-2
 mul-result-2 c = omega (arith, once (c .before .args .b) (c .before .args .p) (omega arith))
