@@ -1,4 +1,4 @@
-// Fields of bits in a slice of bytes, most significant bit first.
+// Fields of bits in a slice of bytes, most significant bit first. 8 is the width of a byte; powers of two come from crate powers.
 ghost use mathlib.Core.Path.{_≡_};
 ghost use Prim.Native.Nat.{_+_, _*_, _%_, _^_, _≤_, _<_};
 ghost use mathlib.Core.List.{[], _∷_};

@@ -36,7 +36,7 @@ pub fn read_number(s: &[u8], at: usize, n: usize) -> u64
     acc
 }
 
-// Writes the last n bytes of v from `at` on, most significant first.
+// Writes the last n bytes of v from `at` on, most significant first: records and answers; fields of a sheet are written by crate field.
 pub fn write_number(s: &mut [u8], at: usize, n: usize, v: u64)
     requires { ⌜ at + n ≤ length (now s) ⌝ }
     ensures { λ _. ⌜ now (s .exit) ≡ take at (now (s .entry)) ++ (bigEndian n v ++ drop (at + n) (now (s .entry))) ⌝ }

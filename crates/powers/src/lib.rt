@@ -1,4 +1,5 @@
-// Powers of two for the widths 0 to 32, as a data sheet prints them.
+// Powers of two for the widths 0 to 32, as a data sheet prints them: the number, then its width. That entry k is 2 ^ k is the contract of
+// `pow2`, which reads it.
 ghost use mathlib.Core.Path.{_≡_};
 ghost use Prim.Native.Nat.{_^_, _≤_};
 
@@ -46,8 +47,8 @@ pub fn pow2(k: usize) -> u64
     POWERS[k]
 }
 
-// Two to the k, for a bit's place in a byte. Each case reads the table at a fixed entry, which the compiler replaces by its number; at
-// an entry known only when it runs, the compiled code builds the table anew.
+// Two to the k for k below 8: a bit's place in a byte, or fewer bits than a byte has. Each case reads the table at a fixed entry, which the
+// compiler replaces by its number; at an entry known only when it runs, the compiled code builds the table anew.
 pub fn byte_pow2(k: usize) -> u64
     requires { ⌜ k ≤ 7 ⌝ }
     ensures { λ r. ⌜ r ≡ 2 ^ k ⌝ }
