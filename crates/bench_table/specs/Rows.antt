@@ -12,11 +12,16 @@ use Rattle.plan.specs.declared.Plan.{Plan}
 use Rattle.plan.specs.Tests.{anyOf}
 use Rattle.writing.specs.Writing.{writtenOf, bytesAfter}
 use Rattle.evaluate.specs.declared.Answer.{Answer}
+use Rattle.evaluate.specs.declared.SheetRun.{SheetRun}
 use Rattle.bench_table.specs.declared.Sheet.{Sheet}
 
 -- The bytes of the longest sheet.
 abbrev pub longest : ℕ
 longest = 224
+
+-- The numbers of 8 bytes in a shares' buffer: two for each of four demands, and one behind them.
+abbrev pub sharesHeld : ℕ
+sharesHeld = 9
 
 -- A component of up to three intervals: low, high and weight of each.
 unfoldable pub componentOf : ℕ → ℕ → List ℕ → List ℕ → List ℕ → Component
@@ -87,6 +92,14 @@ answersDiffer a b =
     (differ (a .number) (b .number) || differ (a .total) (b .total))
     || ((differ (a .belief) (b .belief) || differ (a .plausibility) (b .plausibility))
     || (differ (a .pairs) (b .pairs) || differ (a .intervals) (b .intervals)))
+
+-- Two answers without shares differ in some number.
+unfoldable pub runsDiffer : SheetRun → SheetRun → Bool
+runsDiffer a b = (differ (a .number) (b .number) || differ (a .total) (b .total)) || (differ (a .pairs) (b .pairs) || differ (a .intervals) (b .intervals))
+
+-- Some number of 8 bytes in a shares' buffer differs from that of a list.
+unfoldable pub sharesDiffer : List ℕ → List ℕ → Bool
+sharesDiffer shares list = anyOf (λ i. differ (numberAt shares (8 * i) 8) (getD list i 0)) (countFrom 0 sharesHeld)
 
 -- Record i in a store differs from that of a list: low, high and weight of each record.
 unfoldable pub recordDiffers : List ℕ → List ℕ → ℕ → Bool

@@ -1,7 +1,9 @@
-// Runs every row of the bench table, and rows of its own for the call for a speed: plans are written as sheets, and the answer of each call and its list, record by record, are compared
-// with the table's. Prints a line for each row, and how many rows disagree. What is printed is open in the contracts of the functions that
-// print, and so is the count of rows that they hand on; every other function says what it answers.
+// Runs every row of the bench table, and rows of its own for the calls for a speed and for a set of demands: plans are written as sheets, and
+// the answer of each call and its list, record by record, are compared with the table's. Prints a line for each row, and how many rows
+// disagree. What is printed is open in the contracts of the functions that print, and so is the count of rows that they hand on; every
+// other function says what it answers.
 use evaluate::Answer;
+use evaluate::SheetRun;
 use evaluate::SpeedAnswer;
 use libc::STDOUT_FILENO;
 use plan::Plan;
@@ -17,9 +19,11 @@ ghost use Rattle.plan.specs.Plan.{seriesCode, sharedCode};
 ghost use Rattle.evaluate.specs.Answer.{answer, refusal as Answer·refusal};
 ghost use Rattle.evaluate.specs.Store.{storeAfter};
 ghost use Rattle.evaluate.specs.Speed.{speedAnswer, speedStoreAfter};
+ghost use Rattle.evaluate.specs.Set.{setAnswer, setStoreAfter, sharesAfter};
+ghost use Rattle.evaluate.specs.SheetRun.{refusedRun as SheetRun·refused};
 ghost use Rattle.evaluate.specs.Bench.{accepted as Bench·accepted};
 ghost use Rattle.bench_table.specs.Rows.{componentOf, singleSpeeds, componentA, componentB, W0, W1, D1, D2, D3, chain, sheetOf, restructured};
-ghost use Rattle.bench_table.specs.Rows.{bytesOf, answersDiffer, recordDiffers, listDiffers, speedsBelow};
+ghost use Rattle.bench_table.specs.Rows.{bytesOf, sharesHeld, answersDiffer, runsDiffer, sharesDiffer, recordDiffers, listDiffers, speedsBelow};
 
 // The bytes of the longest sheet, and of the store in all rows but one.
 const LONGEST: usize = 224;
@@ -36,6 +40,15 @@ const P6: [u64; 12] = [1, 1, 2, 1, 4, 1, 2, 3, 6, 2, 4, 3];
 const P7: [u64; 12] = [0, 4, 2000, 0, 6, 5360, 3, 8, 2211, 7, 10, 429];
 
 const T1000: [u64; 3] = [0, 4095, 1000];
+
+// A shares' buffer has room for four demands and 8 bytes behind them: 9 numbers. Each byte is 1 before the call, so each number is ONES.
+const SHARES_HELD: usize = 9;
+
+const SHARES_ROOM: usize = 8 * SHARES_HELD;
+
+const ONES: u64 = 72340172838076673;
+
+const UNCHANGED: [u64; SHARES_HELD] = [ONES; SHARES_HELD];
 
 // A sheet: the first `length` bytes.
 struct Sheet {
@@ -146,6 +159,42 @@ fn speed_answered(s: Sheet, target: u32, allowance: u32, store: &mut [u8]) -> Sp
     evaluate::speed(front(&bytes, s.length), target, allowance, store)
 }
 
+// The call for a set of demands on a sheet, a store and a shares' buffer of any length.
+fn set_answered(
+    s: Sheet,
+    demands: &[u32],
+    allowance: u32,
+    store: &mut [u8],
+    shares: &mut [u8],
+) -> SheetRun
+    ensures { λ r. ⌜ r ≡ setAnswer (bytesOf s) (now (demands .entry)) allowance (length (now (store .entry))) (length (now (shares .entry))) ⌝ }
+    ensures { λ _. ⌜ now (store .exit) ≡ setStoreAfter (bytesOf s) (now (demands .entry)) allowance (now (store .entry)) (length (now (shares .entry))) ⌝ }
+    ensures { λ _. ⌜ now (shares .exit) ≡ sharesAfter (bytesOf s) (now (demands .entry)) allowance (length (now (store .entry))) (now (shares .entry)) ⌝ }
+{
+    let bytes = s.bytes;
+    evaluate::set(front(&bytes, s.length), demands, allowance, store, shares)
+}
+
+fn runs_differ(a: SheetRun, b: SheetRun) -> bool
+    ensures { λ r. ⌜ r ≡ runsDiffer a b ⌝ }
+{
+    let first = plan::either(a.number != b.number, a.total != b.total);
+    let sizes = plan::either(a.pairs != b.pairs, a.intervals != b.intervals);
+    plan::either(first, sizes)
+}
+
+// Some number of a shares' buffer is not that of the list.
+fn shares_differ(shares: &[u8; SHARES_ROOM], list: [u64; SHARES_HELD]) -> bool
+    ensures { λ r. ⌜ r ≡ sharesDiffer (now (shares .entry)) list ⌝ }
+{
+    for i in 0..SHARES_HELD {
+        if numbers::read_number(shares, 8 * i, 8) != list[i] {
+            return true;
+        }
+    }
+    false
+}
+
 fn answers_differ(a: Answer, b: Answer) -> bool
     ensures { λ r. ⌜ r ≡ answersDiffer a b ⌝ }
 {
@@ -218,6 +267,34 @@ fn print_list(store: &[u8; ROOM], count: u64) {
     }
 }
 
+fn print_run(r: SheetRun) {
+    print(b": number ", numbers::wide(r.number));
+    print(b", total ", r.total);
+    print(b", pairs ", r.pairs);
+    print(b", intervals ", r.intervals as u64);
+}
+
+// Prints the shares at demand i.
+fn print_pair(shares: &[u8; SHARES_ROOM], i: usize)
+    requires { ⌜ i < 4 ⌝ }
+{
+    let at = queries::SHARES_BYTES * i;
+    print(b", belief ", numbers::read_number(shares, at, 8));
+    print(
+        b" and plausibility ",
+        numbers::read_number(shares, at + 8, 8),
+    );
+}
+
+// Prints the shares at the first `count` demands, at most four.
+fn print_shares(shares: &[u8; SHARES_ROOM], count: usize) {
+    for i in 0..4 {
+        if i < count {
+            print_pair(shares, i);
+        }
+    }
+}
+
 // Every speed from 0 to 255, with weight 1: the list of D1, D2 and D3 with 4.
 fn every_speed() -> [u64; 3 * theory::MOST_INTERVALS]
     ensures { λ r. ⌜ r ≡ speedsBelow mostIntervals ⌝ }
@@ -230,8 +307,17 @@ fn every_speed() -> [u64; 3 * theory::MOST_INTERVALS]
     list
 }
 
-// Prints an answer, its list, and whether both agree with the table; `wrong` says that something else does not. Answers how many rows
-// disagree, n before this one.
+// Prints whether a row disagrees. Answers how many rows do, n before this one.
+fn verdict(n: u64, wrong: bool) -> u64 {
+    if wrong {
+        io::write_all(STDOUT_FILENO, b": DISAGREES\n");
+        return std::num::wrapping_add_u64(n, 1);
+    }
+    io::write_all(STDOUT_FILENO, b": agrees\n");
+    n
+}
+
+// Prints an answer, its list, and whether both agree with the table; `wrong` says that something else does not.
 fn judge(n: u64, a: Answer, want: Answer, store: &[u8; ROOM], list: &[u64], wrong: bool) -> u64
     requires { ⌜ length (now list) ≤ 3 * mostIntervals ⌝ }
 {
@@ -241,12 +327,7 @@ fn judge(n: u64, a: Answer, want: Answer, store: &[u8; ROOM], list: &[u64], wron
         answers_differ(a, want),
         list_differs(store, a.intervals, list),
     );
-    if plan::either(wrong, differs) {
-        io::write_all(STDOUT_FILENO, b": DISAGREES\n");
-        return std::num::wrapping_add_u64(n, 1);
-    }
-    io::write_all(STDOUT_FILENO, b": agrees\n");
-    n
+    verdict(n, plan::either(wrong, differs))
 }
 
 // Runs a row on a store of `room` bytes.
@@ -286,6 +367,41 @@ fn speed_row(
     judge(n, a, want, &store, list, p.speed != speed)
 }
 
+// Runs a row for a set of demands, on a shares' buffer of `bytes` bytes; `pairs` are its numbers afterwards.
+fn set_row(
+    n: u64,
+    s: Sheet,
+    demands: &[u32],
+    allowance: u32,
+    room: usize,
+    bytes: usize,
+    want: SheetRun,
+    pairs: [u64; SHARES_HELD],
+    list: &[u64],
+) -> u64
+    requires { ⌜ (room ≤ storeBytes) × (bytes ≤ 8 * sharesHeld) × (length (now list) ≤ 3 * mostIntervals) ⌝ }
+{
+    let mut store = [0u8; ROOM];
+    let mut shares = [1u8; SHARES_ROOM];
+    let r = set_answered(
+        s,
+        demands,
+        allowance,
+        &mut store[0..room],
+        &mut shares[0..bytes],
+    );
+    print_run(r);
+    if r.number == 0 {
+        print_shares(&shares, demands.len());
+    }
+    print_list(&store, r.intervals as u64);
+    let differs = plan::either(
+        runs_differ(r, want),
+        list_differs(&store, r.intervals as u64, list),
+    );
+    verdict(n, plan::either(shares_differ(&shares, pairs), differs))
+}
+
 // An accepted row of case P2.
 fn shared_row(n: u64, demand: u32, allowance: u32, belief: u64, plausibility: u64) -> u64 {
     let want = accepted(12, belief, plausibility, 4, 4);
@@ -317,6 +433,42 @@ fn no_speed_row(n: u64, s: Sheet, target: u32, allowance: u32, room: usize, numb
     requires { ⌜ room ≤ storeBytes ⌝ }
 {
     speed_row(n, s, target, allowance, room, 0, refusal(number), &[])
+}
+
+fn refused_run(number: u8) -> SheetRun
+    ensures { λ r. ⌜ r ≡ SheetRun·refused number ⌝ }
+{
+    SheetRun {
+        number: number,
+        total: 0,
+        pairs: 0,
+        intervals: 0,
+    }
+}
+
+// A refused row for a set of demands, which leaves the shares' buffer.
+fn no_set_row(
+    n: u64,
+    s: Sheet,
+    demands: &[u32],
+    allowance: u32,
+    room: usize,
+    bytes: usize,
+    number: u8,
+) -> u64
+    requires { ⌜ (room ≤ storeBytes) × (bytes ≤ 8 * sharesHeld) ⌝ }
+{
+    set_row(
+        n,
+        s,
+        demands,
+        allowance,
+        room,
+        bytes,
+        refused_run(number),
+        UNCHANGED,
+        &[],
+    )
 }
 
 // P1 to P6.
@@ -474,11 +626,110 @@ fn rows_of_refused_speeds(mut n: u64) -> u64 {
     no_speed_row(n, five, 1, 384, ROOM, 14)
 }
 
+// Sets of demands, in no order and with equal ones.
+fn rows_of_sets(mut n: u64) -> u64 {
+    let w = SheetRun {
+        number: 0,
+        total: 10000,
+        pairs: 6,
+        intervals: 4,
+    };
+    let shared = SheetRun {
+        number: 0,
+        total: 12,
+        pairs: 4,
+        intervals: 4,
+    };
+    io::write_all(STDOUT_FILENO, b"W, demands 7, 3, 0, 7");
+    n = set_row(
+        n,
+        sheet_w(),
+        &[7, 3, 0, 7],
+        1000,
+        ROOM,
+        SHARES_ROOM,
+        w,
+        [429, 2640, 2640, 10000, 10000, 10000, 429, 2640, ONES],
+        &P7,
+    );
+    io::write_all(STDOUT_FILENO, b"W, demand 11, 16 bytes for shares");
+    n = set_row(
+        n,
+        sheet_w(),
+        &[11],
+        1000,
+        ROOM,
+        16,
+        w,
+        [0, 0, ONES, ONES, ONES, ONES, ONES, ONES, ONES],
+        &P7,
+    );
+    io::write_all(STDOUT_FILENO, b"case P2, demands 8, 7, 3");
+    set_row(
+        n,
+        a_and_b(SHARED_CODE),
+        &[8, 7, 3],
+        4,
+        ROOM,
+        SHARES_ROOM,
+        shared,
+        [0, 0, 0, 3, 9, 10, ONES, ONES, ONES],
+        &P2,
+    )
+}
+
+// The order of refusals: 11, 12, 17, 18, then 13 and 14.
+fn rows_of_refused_sets(mut n: u64) -> u64 {
+    let shared = a_and_b(SHARED_CODE);
+    let five = d_with(5);
+    let seventeen = [3; 17];
+    io::write_all(
+        STDOUT_FILENO,
+        b"structure 8 0 1, no demand, buffer 16,383 bytes",
+    );
+    n = no_set_row(
+        n,
+        a_and_b_as(0x80, 0x10),
+        &[],
+        1000,
+        ROOM - 1,
+        SHARES_ROOM,
+        11,
+    );
+    io::write_all(STDOUT_FILENO, b"no demand, buffer 16,383 bytes");
+    n = no_set_row(n, shared, &[], 1000, ROOM - 1, SHARES_ROOM, 12);
+    io::write_all(STDOUT_FILENO, b"no demand");
+    n = no_set_row(n, shared, &[], 1000, ROOM, SHARES_ROOM, 17);
+    io::write_all(
+        STDOUT_FILENO,
+        b"17 demands, 72 bytes for shares, allowance 3",
+    );
+    n = no_set_row(n, shared, &seventeen, 3, ROOM, SHARES_ROOM, 17);
+    io::write_all(
+        STDOUT_FILENO,
+        b"2 demands, 31 bytes for shares, allowance 3",
+    );
+    n = no_set_row(n, shared, &[3, 7], 3, ROOM, 31, 18);
+    io::write_all(
+        STDOUT_FILENO,
+        b"2 demands, 32 bytes for shares, allowance 3",
+    );
+    n = no_set_row(n, shared, &[3, 7], 3, ROOM, 32, 13);
+    io::write_all(
+        STDOUT_FILENO,
+        b"D1, D2, D3 with 5, 1 demand, 15 bytes for shares, allowance 384",
+    );
+    n = no_set_row(n, five, &[0], 384, ROOM, 15, 18);
+    io::write_all(STDOUT_FILENO, b"D1, D2, D3 with 5, 1 demand, allowance 384");
+    no_set_row(n, five, &[0], 384, ROOM, SHARES_ROOM, 14)
+}
+
 fn main() {
     let n = rows_of_limits(rows_of_w_and_refusals(rows_of_a_and_b(0)));
+    let m = rows_of_refused_speeds(rows_of_speeds(n));
     print(
         b"rows that disagree: ",
-        rows_of_refused_speeds(rows_of_speeds(n)),
+        rows_of_refused_sets(rows_of_sets(m)),
     );
     io::write_all(STDOUT_FILENO, b"\n");
 }

@@ -1,13 +1,14 @@
 -- Laws of a row: its length, its places, and that it depends on the used places alone. Assumes nothing.
-use mathlib.Core.Path.{_≡_, refl, _∙_}
-use mathlib.Core.List.{List}
+use mathlib.Core.Path.{_≡_, refl, sym, ap, _∙_}
+use mathlib.Core.List.{List, [], _∷_, _++_, map}
 use Prim.Native.Nat.{ℕ, zero, suc, _+_, _≤_, _<_}
 use native.Mathlib.Numerals.{add-one}
 use native.Mathlib.Decide.{ℕ-discrete}
 use native.Mathlib.Omega.{arith}
-use lib.ListN.{length, getD, set, length-set, length-replicate}
-use lib.Seq.{getD-set-same, getD-set-other}
-use Rattle.theory.specs.Sums.{Every}
+use lib.ListN.{length, take, getD, set, length-set, length-replicate}
+use lib.Seq.{take-suc-set, getD-set-same, getD-set-other}
+use Rattle.theory.specs.Sums.{countFrom, Every}
+use Rattle.theory.proofs.Sums.{map-count}
 use Rattle.theory.proofs.Every.{every-replicate, every-set}
 use Rattle.block.specs.Rows.{row}
 
@@ -43,3 +44,10 @@ module _ {A : Type 0} (d : A) (m : ℕ) where
         rw x (getD-set-same (row d m f k) k (f k) e p)
     | no n ↦ getD-set-other (row d m f k) k i (f k) e n ∙ row-used e f k i (omega arith) (omega arith)
   ]
+
+  -- The used places.
+  pub row-front : (f : ℕ → A) (k : ℕ) → k ≤ m → take k (row d m f k) ≡ map f (countFrom 0 k)
+  unfolding row
+  row-front f zero h = refl
+  row-front f (suc k) h =
+      take-suc-set (row d m f k) k (f k) (rw (length-row f k) h) ∙ (ap (λ (l : List A). l ++ (f k ∷ [])) (row-front f k (omega arith)) ∙ sym (map-count f 0 k k (omega arith)))

@@ -33,15 +33,15 @@ answers-read a fits rest {buffer} e =
     let b2 : List ℕ = bigEndian 8 (a .belief) ++ b3 in
     let all : buffer ≡ bigEndian 8 (a .total) ++ b2 = e ∙ simp append-assoc in
     record {
-      total-read = rw all (read-front 8 (a .total) b2 (fits .total));
+      total-read = rw all (read-front 8 (a .total) b2 (fits .run .total));
       belief-read = rw all (read-behind 8 (a .total) b2 0 8 ∙ read-front 8 (a .belief) b3 (fits .belief));
       plausibility-read = rw all (read-behind 8 (a .total) b2 8 8 ∙ (read-behind 8 (a .belief) b3 0 8 ∙ read-front 8 (a .plausibility) b4 (fits .plausibility)));
       pairs-read = λ k.
           rw all (read-behind 8 (a .total) b2 16 8 ∙ (read-behind 8 (a .belief) b3 8 8 ∙ (read-behind 8 (a .plausibility) b4 0 8
-          ∙ read-front 8 (a .pairs) b5 (fits .pairs k))));
+          ∙ read-front 8 (a .pairs) b5 (fits .run .pairs k))));
       intervals-read =
           rw all (read-behind 8 (a .total) b2 24 8 ∙ (read-behind 8 (a .belief) b3 16 8 ∙ (read-behind 8 (a .plausibility) b4 8 8
-          ∙ (read-behind 8 (a .pairs) b5 0 8 ∙ read-front 8 (a .intervals) rest (fits .intervals)))));
+          ∙ (read-behind 8 (a .pairs) b5 0 8 ∙ read-front 8 (a .intervals) rest (fits .run .intervals)))));
     }
 
 -- ---- an answer buffer that is too short

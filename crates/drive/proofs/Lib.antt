@@ -1,6 +1,7 @@
 -- What is proved of the calls for C hosts.
 pub mod Call
 pub mod Speed
+pub mod Set
 pub mod Fits
 pub mod Writer
 pub mod Reader

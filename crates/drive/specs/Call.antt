@@ -22,14 +22,15 @@ unfoldable pub encodeAnswer : Answer → List ℕ
 encodeAnswer a =
     bigEndian 8 (a .total) ++ (bigEndian 8 (a .belief) ++ (bigEndian 8 (a .plausibility) ++ (bigEndian 8 (a .pairs) ++ bigEndian 8 (a .intervals))))
 
--- The ordinary call and that for a speed have a list buffer and an answer buffer, in which their answers take `size` bytes. The bytes of
--- the list buffer that count: none where the answer buffer is too short, so that the number is 12 unless one of 1 to 11 applies.
+-- The ordinary call, that for a set of demands and that for a speed have an answer buffer, in which their answers take `size` bytes, and other
+-- buffers that are lent to them: the list buffer, and that for the shares of a set. The bytes of such a buffer that count: none where the
+-- answer buffer is too short, so that the number is 12 unless one of 1 to 11 applies.
 abbrev pub room : ℕ → List ℕ → List ℕ → ℕ
-room size list buffer = cond (ltb (length buffer) size) 0 (length list)
+room size lent buffer = cond (ltb (length buffer) size) 0 (length lent)
 
--- The list buffer afterwards: unchanged where the answer buffer is too short; else the store that the call leaves.
-abbrev pub listBy : ℕ → List ℕ → List ℕ → List ℕ → List ℕ
-listBy size list buffer after = cond (ltb (length buffer) size) list after
+-- A lent buffer afterwards: unchanged where the answer buffer is too short; else what the call leaves in it.
+abbrev pub lentBy : ℕ → List ℕ → List ℕ → List ℕ → List ℕ
+lentBy size lent buffer after = cond (ltb (length buffer) size) lent after
 
 -- The answer buffer afterwards: unchanged where it is too short; else the answers at its front, and the bytes behind untouched.
 abbrev pub answersBy : ℕ → List ℕ → List ℕ → List ℕ
@@ -43,13 +44,13 @@ unfoldable pub numberReturned : List ℕ → ℕ → ℕ → List ℕ → List �
 numberReturned sheet demand allowance list buffer = (called sheet demand allowance list buffer) .number
 
 unfoldable pub listAfter : List ℕ → ℕ → List ℕ → List ℕ → List ℕ
-listAfter sheet allowance list buffer = listBy answerBytes list buffer (storeAfter sheet allowance list)
+listAfter sheet allowance list buffer = lentBy answerBytes list buffer (storeAfter sheet allowance list)
 
 unfoldable pub answerAfter : List ℕ → ℕ → ℕ → List ℕ → List ℕ → List ℕ
 answerAfter sheet demand allowance list buffer = answersBy answerBytes buffer (encodeAnswer (called sheet demand allowance list buffer))
 
 -- "If that has fewer than 40 bytes, it and the list buffer stay unchanged and the number is 12, unless one of 1 to 11 applies." Where a
--- speed is asked for, 48 stands for 40.
+-- speed is asked for, 48 stands for 40, and 24 where a set of demands is.
 pub record TooShort (sheet : List ℕ) (number : ℕ) (list listThen buffer bufferThen : List ℕ) : Type 0 where
   pub answer-unchanged : bufferThen ≡ buffer
   pub list-unchanged : listThen ≡ list

@@ -6,7 +6,7 @@ use lib.ListN.{length, drop}
 use Rattle.numbers.specs.Numbers.{bigEndian, numberAt}
 use Rattle.evaluate.specs.declared.SpeedAnswer.{SpeedAnswer}
 use Rattle.evaluate.specs.Speed.{speedAnswer, speedStoreAfter}
-use Rattle.drive.specs.Call.{answerBytes, encodeAnswer, room, listBy, answersBy, TooShort, AnswersRead}
+use Rattle.drive.specs.Call.{answerBytes, encodeAnswer, room, lentBy, answersBy, TooShort, AnswersRead}
 
 -- The bytes that the answers take: those of an ordinary call, then the speed, 8 bytes, most significant first.
 abbrev pub speedAnswerBytes : ℕ
@@ -23,7 +23,7 @@ unfoldable pub speedNumber : List ℕ → ℕ → ℕ → List ℕ → List ℕ 
 speedNumber sheet target allowance list buffer = (speedCalled sheet target allowance list buffer) .answer .number
 
 unfoldable pub speedListAfter : List ℕ → ℕ → ℕ → List ℕ → List ℕ → List ℕ
-speedListAfter sheet target allowance list buffer = listBy speedAnswerBytes list buffer (speedStoreAfter sheet target allowance list)
+speedListAfter sheet target allowance list buffer = lentBy speedAnswerBytes list buffer (speedStoreAfter sheet target allowance list)
 
 unfoldable pub speedAnswerAfter : List ℕ → ℕ → ℕ → List ℕ → List ℕ → List ℕ
 speedAnswerAfter sheet target allowance list buffer =

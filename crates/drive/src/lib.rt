@@ -6,14 +6,19 @@ ghost use Prim.Native.Nat.{_≤_};
 ghost use lib.ListN.{length, drop};
 ghost use Rattle.drive.specs.Call.{answerBytes, encodeAnswer, numberReturned, listAfter, answerAfter};
 ghost use Rattle.drive.specs.Speed.{speedAnswerBytes, encodeSpeedAnswer, speedNumber, speedListAfter, speedAnswerAfter};
+ghost use Rattle.drive.specs.Set.{setAnswerBytes, encodeSetAnswer, setNumber, setListAfter, setSharesAfter, setAnswerAfter};
 ghost use Rattle.drive.specs.Sheets.{writeNumber, sheetAfter, lengthAfter, readNumber, planAfter};
 use evaluate::Answer;
+use evaluate::SheetRun;
 use evaluate::SpeedAnswer;
 
-// The bytes that an answer takes, those of an answer with a speed, and those of the length that the writer answers.
+// The bytes that an answer takes, those of an answer with a speed, those of the answer beside the shares of a set, and those of the length
+// that the writer answers.
 const ANSWER_BYTES: usize = 40;
 
 const SPEED_ANSWER_BYTES: usize = 48;
+
+const SET_ANSWER_BYTES: usize = 24;
 
 const LENGTH_BYTES: usize = 8;
 
@@ -81,6 +86,50 @@ pub extern "C" fn drive_speed(
     let p = evaluate::speed(sheet, target, allowance, list);
     put_speed_answer(p, answer);
     p.answer.number as u32
+}
+
+// Writes what a call for a set answers beside the shares at the front of a buffer that holds it.
+fn put_set_answer(r: SheetRun, buffer: &mut [u8])
+    requires { ⌜ setAnswerBytes ≤ length (now buffer) ⌝ }
+    ensures { λ _. ⌜ now (buffer .exit) ≡ encodeSetAnswer r ++ drop setAnswerBytes (now (buffer .entry)) ⌝ }
+{
+    numbers::write_number(buffer, 0, 8, r.total);
+    numbers::write_number(buffer, 8, 8, r.pairs);
+    numbers::write_number(buffer, 16, 8, r.intervals as u64);
+}
+
+// Returns the number. The shares at each demand go to the front of `shares`, the other answers to the front of `answer`, the drive's list to
+// the front of `list`.
+#[no_mangle]
+pub extern "C" fn drive_set(
+    sheet: &[u8],
+    demands: &[u8],
+    allowance: u32,
+    list: &mut [u8],
+    shares: &mut [u8],
+    answer: &mut [u8],
+) -> u32
+    ensures { λ r. ⌜ r ≡ setNumber (now (sheet .entry)) (now (demands .entry)) allowance (now (list .entry)) (now (shares .entry)) (now (answer .entry)) ⌝ }
+    ensures { λ _. ⌜ now (list .exit) ≡ setListAfter (now (sheet .entry)) (now (demands .entry)) allowance (now (list .entry)) (now (shares .entry)) (now (answer .entry)) ⌝ }
+    ensures { λ _. ⌜ now (shares .exit) ≡ setSharesAfter (now (sheet .entry)) (now (demands .entry)) allowance (now (list .entry)) (now (shares .entry)) (now (answer .entry)) ⌝ }
+    ensures { λ _. ⌜ now (answer .exit) ≡ setAnswerAfter (now (sheet .entry)) (now (demands .entry)) allowance (now (list .entry)) (now (shares .entry)) (now (answer .entry)) ⌝ }
+{
+    let d = wire::decode_demands(demands);
+    let values = d.values;
+    let n = d.count;
+    if answer.len() < SET_ANSWER_BYTES {
+        let r = evaluate::set(
+            sheet,
+            &values[0..n],
+            allowance,
+            &mut list[0..0],
+            &mut shares[0..0],
+        );
+        return r.number as u32;
+    }
+    let r = evaluate::set(sheet, &values[0..n], allowance, list, shares);
+    put_set_answer(r, answer);
+    r.number as u32
 }
 
 // Returns the number. The sheet of the plan goes to the front of `sheet`, its length to the front of `answer`.

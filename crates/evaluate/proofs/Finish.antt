@@ -1,15 +1,15 @@
 -- From the run of a plan to the answer of a call: the list that the run leaves is the drive's, and is read back from the store. Assumes nothing.
-use Prim.Native.Nat.{ℕ, zero, suc, _+_, _*_, _^_, _≤_, _<_}
+use Prim.Native.Nat.{ℕ, zero, suc, _+_, _*_, _≤_, _<_}
 use mathlib.Core.Path.{_≡_, refl, sym, ap, _∙_}
 use mathlib.Core.Bool.{Bool, true, false, cond}
 use mathlib.Core.Logic.{_⊎_, inl, inr}
-use mathlib.Core.List.{List, [], _∷_, map}
+use mathlib.Core.List.{List, [], _∷_, _++_, map}
 use native.Mathlib.Omega.{arith}
 use lib.Dec.{ltb}
-use lib.ListN.{length, length-append}
+use lib.ListN.{length, drop, length-append}
 use borrow.Author.Tests.{ltb-false}
 use Rattle.theory.specs.Masses.{total}
-use Rattle.theory.specs.Focal.{Focal, weights}
+use Rattle.theory.specs.Focal.{Focal}
 use Rattle.theory.specs.declared.Component.{Component}
 use Rattle.theory.specs.declared.Entry.{Entry}
 use Rattle.theory.specs.declared.Entry.the-variants.{Component as component, Join as join}
@@ -24,13 +24,13 @@ use Rattle.theory.proofs.Method.{image, evaluate-lists, evaluate-refused, Leave
 use Rattle.theory.proofs.Totals.{fits-drive, total-positive}
 use Rattle.queries.specs.declared.Shares.{Shares}
 use Rattle.records.specs.Records.{records, Storable}
-use Rattle.queries.specs.Shares.{sharesOf}
+use Rattle.queries.specs.Shares.{sharesOf, sharesBytes, encodeShares, encodeSet, Readable}
 use Rattle.queries.specs.Speed.{ValidTarget}
 use Rattle.records.proofs.Records.{length-encode}
 use Rattle.records.specs.Store.{settled}
 use Rattle.records.proofs.Store.{settled-list}
 use Rattle.plan.specs.declared.Plan.{Plan}
-use Rattle.theory.specs.Sums.{Every}
+use Rattle.theory.specs.Sums.{forEach, Every}
 use Rattle.plan.specs.Tests.{firstBroken, Unbroken}
 use Rattle.plan.proofs.Numbers.{no-number}
 use Rattle.plan.proofs.Tests.{within as within-bounds}
@@ -44,8 +44,9 @@ use Rattle.run.proofs.Stacked.{fits-record}
 use Rattle.evaluate.specs.declared.SheetRun.{SheetRun}
 use Rattle.evaluate.specs.Answer.{planOf, components, structure, sheetOutcomes, sheetList, callTests, evaluated, answerOf}
 use Rattle.evaluate.specs.Store.{isLate, storeBy}
-use Rattle.evaluate.specs.SheetRun.{numberThen, refusedRun, sheetRunOf, answerFrom, endingAt, storeAt}
+use Rattle.evaluate.specs.SheetRun.{numberThen, refusedRun, sheetRunOf, answerFrom, endingAt, storeAt, sheetRun, storeThen}
 use Rattle.evaluate.specs.Speed.{targetTests}
+use Rattle.evaluate.specs.Set.{demandTests, sharesBy}
 use Rattle.evaluate.proofs.Numbers.{tests-say, number-passed, own-passed, number-early, Ended, tested, stopped, passed, ended}
 
 -- ---- a completed evaluation has formed no more pairs than the allowance
@@ -129,7 +130,7 @@ ready s store z = let say = tests-say s (length store) z in record { valid = rea
 
 -- Tests and run, by the number of the call's own tests.
 module _ (s : List ℕ) (own allowance : ℕ) (store : List ℕ) where
-  abbrev number : ℕ
+  abbrev pub number : ℕ
   number = numberThen s (length store) own
 
   abbrev pub end : Evaluation Tree
@@ -184,27 +185,26 @@ abbrev pub askedList : Evaluation Tree → List ℕ → List Focal
 askedList (refused k) s = []
 askedList (completed stack pairs) s = sheetList s
 
--- The list l can be read from the store x.
-pub record Readable (l : List Focal) (n : ℕ) (x : List ℕ) : Type 0 where
-  pub room : recordBytes * n ≤ length x
+-- The list l is read from the store x.
+pub record ListRead (l : List Focal) (n : ℕ) (x : List ℕ) : Type 0 where
+  pub readable : Readable x n
   pub list-is : records n x ≡ l
-  pub fits : weights (records n x) < 2 ^ 64
   pub ordered : InOrder (records n x)
 
 -- A refused call has no list.
-nothing : (r : SheetRun) (x : List ℕ) {k : ℕ} → r ≡ refusedRun k → Readable [] (r .intervals) x
+nothing : (r : SheetRun) (x : List ℕ) {k : ℕ} → r ≡ refusedRun k → ListRead [] (r .intervals) x
 unfolding records
 nothing r x e =
     let z : r .intervals ≡ 0 = ap (λ (y : SheetRun). y .intervals) e in
-    rw z (record { room = omega arith; list-is = refl; fits = omega arith; ordered = InOrder.none })
+    rw z (record { readable = record { room = omega arith; fits = omega arith }; list-is = refl; ordered = InOrder.none })
 
 module _ (s : List ℕ) (own allowance : ℕ) (store : List ℕ) where
-  pub readable : (r : SheetRun) (x : List ℕ) → r ≡ sheetRunOf (end s own allowance store) s → x ≡ storeAt (number s own allowance store) s allowance store
-      → Readable (askedList (end s own allowance store) s) (r .intervals) x
-  readable r x e f = go (ended (number s own allowance store) s allowance) e f
+  list-read : (r : SheetRun) (x : List ℕ) → r ≡ sheetRunOf (end s own allowance store) s → x ≡ storeAt (number s own allowance store) s allowance store
+      → ListRead (askedList (end s own allowance store) s) (r .intervals) x
+  list-read r x e f = go (ended (number s own allowance store) s allowance) e f
     where
       go : {v : Evaluation Tree} → Ended (number s own allowance store) s allowance v → r ≡ sheetRunOf v s → x ≡ storeBy v (needed (planOf s)) (sheetList s) store
-          → Readable (askedList v s) (r .intervals) x
+          → ListRead (askedList v s) (r .intervals) x
       go (tested h z) e f = nothing r x e
       go (stopped z l q) e f = nothing r x e
       go (passed z q) e f =
@@ -212,11 +212,22 @@ module _ (s : List ℕ) (own allowance : ℕ) (store : List ℕ) where
           let fits = drive-fits (ready s store (number-passed s (length store) own z) .valid) in
           let back : records (r .intervals) x ≡ sheetList s = rw (m, f) (settled-list (needed (planOf s)) store (fits .0) (fits .1)) in
           record {
-            room = rw (m, f) (settled-room (needed (planOf s)) (sheetList s) store);
+            readable = record { room = rw (m, f) (settled-room (needed (planOf s)) (sheetList s) store); fits = rw back (fits .1) };
             list-is = back;
-            fits = rw back (fits .1);
             ordered = rw back (order-collect (sheetOutcomes s));
           }
+
+  -- What is known past tests and run: what they answered, the store, and the list in it.
+  pub record PastRun (r : SheetRun) (x : List ℕ) : Type 0 where
+    pub ran : r ≡ sheetRunOf (end s own allowance store) s
+    pub stored : x ≡ storeAt (number s own allowance store) s allowance store
+    pub list : ListRead (askedList (end s own allowance store) s) (r .intervals) x
+
+  pub past-run : {n : ℕ} → n ≡ own → (r : SheetRun) (x : List ℕ) → r ≡ sheetRun s (length store) n allowance → x ≡ storeThen s n allowance store → PastRun r x
+  past-run {n} h r x e f =
+      let ran = e ∙ ap (λ (m : ℕ). sheetRunOf (end s m allowance store) s) h in
+      let stored = f ∙ ap (λ (m : ℕ). storeAt (number s m allowance store) s allowance store) h in
+      record { ran = ran; stored = stored; list = list-read r x ran stored }
 
 -- A list that is not empty is asked with a target of 1 to 1,000 and a total above 0.
 pub target-asked : (s : List ℕ) (target allowance : ℕ) (store : List ℕ) → let own : ℕ = firstBroken (targetTests target) in
@@ -234,6 +245,37 @@ target-asked s target allowance store r e h = go (ended (number s own allowance 
         let valid = ready s store (number-passed s (length store) own z) .valid in
         let positive = total-positive (every-map (λ c t. t .0) (valid .totals)) in
         record { least = bounds .0; most = bounds .1; total-positive = omega (arith, positive, ap (λ (y : SheetRun). y .total) e) }
+
+-- A set of demands that passes its tests has room for its shares.
+pub shares-room : (s demands : List ℕ) (allowance : ℕ) (store shares : List ℕ) → let own : ℕ = firstBroken (demandTests (length demands) (length shares)) in
+    (r : SheetRun) → r ≡ sheetRunOf (end s own allowance store) s → r .number ≡ 0 → sharesBytes * length demands ≤ length shares
+shares-room s demands allowance store shares r e h = go (ended (number s own allowance store) s allowance) e
+  where
+    own : ℕ
+    own = firstBroken (demandTests (length demands) (length shares))
+
+    fits : Every Unbroken (demandTests (length demands) (length shares)) → sharesBytes * length demands ≤ length shares
+    fits (Every.more e (Every.more f r)) = ltb-false (length shares) (sharesBytes * length demands) f
+
+    go : {v : Evaluation Tree} → Ended (number s own allowance store) s allowance v → r ≡ sheetRunOf v s → sharesBytes * length demands ≤ length shares
+    go (tested k z) e = absurd (omega (arith, ap (λ (y : SheetRun). y .number) e))
+    go (stopped {k = k} z l q) e = absurd (omega (arith, above k l, ap (λ (y : SheetRun). y .number) e))
+    go (passed z q) e = fits (no-number 18 (demandTests (length demands) (length shares)) refl (own-passed s (length store) own z))
+
+-- The shares' buffer: refused, as it was; accepted, with the shares of the list.
+pub shares-refused : (s demands shares : List ℕ) (v : Evaluation Tree) {r : SheetRun} → r ≡ sheetRunOf v s → (r .number ≡ 0 → ⊥)
+    → shares ≡ sharesBy v demands (sheetOutcomes s) shares
+shares-refused s demands shares (refused k) e h = refl
+shares-refused s demands shares (completed stack pairs) e h = absurd (h (ap (λ (y : SheetRun). y .number) e))
+
+pub shares-asked : (s demands shares : List ℕ) {number allowance : ℕ} {v : Evaluation Tree} → Ended number s allowance v → {r : SheetRun} → r ≡ sheetRunOf v s → r .number ≡ 0
+    → encodeSet demands (askedList v s) ++ drop (sharesBytes * length demands) shares ≡ sharesBy v demands (sheetOutcomes s) shares
+shares-asked s demands shares (tested k z) e h = absurd (omega (arith, ap (λ (y : SheetRun). y .number) e))
+shares-asked s demands shares (stopped {k = k} z l q) e h = absurd (omega (arith, above k l, ap (λ (y : SheetRun). y .number) e))
+shares-asked s demands shares (passed z q) e h =
+    λ i.
+    forEach demands (λ d. encodeShares (record { belief = belief-collect d (sheetOutcomes s) i; plausibility = plausibility-collect d (sheetOutcomes s) i }))
+    ++ drop (sharesBytes * length demands) shares
 
 -- The answer, from what tests and run answered and the list's shares.
 pub answer-asked : (s : List ℕ) (demand : ℕ) (v : Evaluation Tree) {r : SheetRun} → r ≡ sheetRunOf v s → {b : Shares} → b ≡ sharesOf demand (askedList v s)

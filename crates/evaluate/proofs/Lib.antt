@@ -4,3 +4,4 @@ pub mod Numbers
 pub mod Finish
 pub mod Demands
 pub mod SpeedMet
+pub mod SetMet

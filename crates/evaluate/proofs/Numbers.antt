@@ -19,10 +19,11 @@ use Rattle.reading.specs.Reading.{sheetTests, readOf}
 use Rattle.reading.proofs.Decided.{read-number}
 use Rattle.plan.proofs.Numbers.{no-number, number-never, first-found, first-none, first-then}
 use Rattle.run.specs.Run.{needed}
-use Rattle.evaluate.specs.Answer.{planOf, components, structure, callTests, testedOf, evaluated, testedFirst, ending, answerWith, answer}
+use Rattle.evaluate.specs.Answer.{planOf, components, structure, sheetOutcomes, callTests, testedOf, evaluated, testedFirst, ending, answerWith, answer}
 use Rattle.evaluate.specs.Store.{isLate, storeWith, storeAfter}
-use Rattle.evaluate.specs.SheetRun.{numberThen, endingAt}
+use Rattle.evaluate.specs.SheetRun.{numberThen, endingAt, sheetRunOf}
 use Rattle.evaluate.specs.Speed.{speedTests, speedAnswerOf, speedAnswer, speedStoreAfter}
+use Rattle.evaluate.specs.Set.{setTests, sharesBy, setAnswer, setStoreAfter, sharesAfter}
 
 -- The tests of a call.
 module _ (s : List ℕ) (room : ℕ) where
@@ -83,6 +84,9 @@ call-numbered s room = numbered-by (callTests s room) refl refl
 pub speed-numbered : (s : List ℕ) (target room : ℕ) → Numbered (speedTests s target room)
 speed-numbered s target room = numbered-by (speedTests s target room) refl refl
 
+pub set-numbered : (s demands : List ℕ) (room bytes : ℕ) → Numbered (setTests s demands room bytes)
+set-numbered s demands room bytes = numbered-by (setTests s demands room bytes) refl refl
+
 -- A call's own tests come behind the others.
 module _ (s : List ℕ) (room : ℕ) where
   pub number-then : (own : List Test) → numberThen s room (firstBroken own) ≡ firstBroken (callTests s room ++ own)
@@ -141,3 +145,18 @@ pub speed-store-is : (s : List ℕ) (target allowance : ℕ) (store : List ℕ)
     → speedStoreAfter s target allowance store ≡ storeWith (speedTests s target (length store)) s allowance store
 unfolding speedStoreAfter
 speed-store-is s target allowance store = refl
+
+pub set-answer-is : (s demands : List ℕ) (allowance room bytes : ℕ)
+    → setAnswer s demands allowance room bytes ≡ sheetRunOf (ending (setTests s demands room bytes) s allowance) s
+unfolding setAnswer
+set-answer-is s demands allowance room bytes = refl
+
+pub set-store-is : (s demands : List ℕ) (allowance : ℕ) (store : List ℕ) (bytes : ℕ)
+    → setStoreAfter s demands allowance store bytes ≡ storeWith (setTests s demands (length store) bytes) s allowance store
+unfolding setStoreAfter
+set-store-is s demands allowance store bytes = refl
+
+pub shares-is : (s demands : List ℕ) (allowance room : ℕ) (shares : List ℕ)
+    → sharesAfter s demands allowance room shares ≡ sharesBy (ending (setTests s demands room (length shares)) s allowance) demands (sheetOutcomes s) shares
+unfolding sharesAfter
+shares-is s demands allowance room shares = refl

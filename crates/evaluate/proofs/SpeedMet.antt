@@ -1,15 +1,13 @@
 -- The call for a speed: the statement `SpeedMet` of specs/Demands.antt holds. Assumes nothing.
-use Prim.Native.Nat.{ℕ, zero, suc, _*_, _≤_, _<_}
+use Prim.Native.Nat.{ℕ, _*_, _≤_, _<_}
 use mathlib.Core.Path.{_≡_, refl, sym, ap, _∙_}
 use mathlib.Core.Bool.{Bool, true, false, cond, false≢true}
-use mathlib.Core.Logic.{_⊎_, inl, inr}
+use mathlib.Core.Logic.{_⊎_, _↔_}
 use mathlib.Core.List.{List}
 use native.Mathlib.Nat.{mul-pos, mul-le-mul-right}
 use native.Mathlib.Decide.{ℕ-discrete}
 use native.Mathlib.Omega.{arith}
-use lib.Dec.{eqb}
 use lib.ListN.{length}
-use borrow.Author.Tests.{ne-eqb, lt-ltb, le-ltb, ltb-true}
 use Rattle.theory.specs.Limits.{thousandths}
 use Rattle.theory.specs.Focal.{weights}
 use Rattle.theory.specs.Masses.{total}
@@ -20,19 +18,20 @@ use Rattle.theory.proofs.Every.{every-map, every-split}
 use Rattle.theory.proofs.Totals.{total-positive}
 use Rattle.theory.proofs.Speed.{speed-most, speed-greatest, greatest-one}
 use Rattle.theory.specs.Sums.{Every}
-use Rattle.plan.specs.Tests.{firstBroken, outside, Unbroken, here as here-first}
+use Rattle.plan.specs.Tests.{firstBroken, outside, Unbroken}
 use Rattle.plan.specs.Valid.{Valid}
-use Rattle.plan.proofs.Numbers.{none-broken, number-never, refused-by, first-behind}
+use Rattle.plan.proofs.Tests.{beyond}
+use Rattle.plan.proofs.Numbers.{none-broken}
 use Rattle.evaluate.specs.declared.Answer.{Answer}
 use Rattle.evaluate.specs.declared.SpeedAnswer.{SpeedAnswer}
-use Rattle.evaluate.specs.Answer.{planOf, components, structure, sheetList, callTests, ending, answerOf, answerWith, answer}
+use Rattle.evaluate.specs.Answer.{planOf, components, structure, sheetList, callTests, ending, refusal, answerOf, answerWith, answer}
 use Rattle.evaluate.specs.Store.{storeAfter}
 use Rattle.evaluate.specs.SheetRun.{endingAt, storeAt}
 use Rattle.evaluate.specs.Speed.{targetTests, speedTests, speedBy, speedStoreAfter}
-use Rattle.evaluate.specs.Demands.{Passed, Broken, by-test, by-join, Demand-1, speedAnswered, beliefAt, SpeedMet}
-use Rattle.evaluate.proofs.Numbers.{number-then, call-numbered, speed-numbered, answer-is, store-is, speed-answer-is, speed-store-is}
+use Rattle.evaluate.specs.Demands.{Passed, Demand-1, speedAnswered, beliefAt, SpeedMet}
+use Rattle.evaluate.proofs.Numbers.{speed-numbered, answer-is, store-is, speed-answer-is, speed-store-is}
 use Rattle.evaluate.proofs.Finish.{drive-fits, ready, target-inside}
-use Rattle.evaluate.proofs.Demands.{passes, demand-1-of, demand-2, Fits64, refusal-fits, answer-fits}
+use Rattle.evaluate.proofs.Demands.{endNumber, passes, demand-1-of, number-own, same-number, number-by, zeros-by, demand-2, Fits64, refusal-fits, answer-fits}
 
 -- The greatest demand, of equal beliefs over an equal whole.
 greatest-of : {target v w : ℕ} {f g : ℕ → ℕ} {speed : ℕ} → v ≡ w → ((d : ℕ) → f d ≡ g d) → GreatestDemand target v f speed → GreatestDemand target w g speed
@@ -57,37 +56,40 @@ module _ (s : List ℕ) (target allowance : ℕ) (store : List ℕ) where
       ap (λ (p : SpeedAnswer). p .answer) (speed-answer-is s target allowance room)
       ∙ ap (λ (v : ℕ). answerOf end (structure s) (components s) v) (sym speed-is)
 
-  first : Demand-1 (speedTests s target room) s allowance (here .answer) store (speedStoreAfter s target allowance store)
-  first =
-      demand-1-of (speedTests s target room) s (here .speed) allowance store (speed-numbered s target room) other-is (speed-store-is s target allowance store)
+  number-is : here .answer .number ≡ endNumber end
+  number-is = ap (λ (a : Answer). a .number) other-is ∙ number-by end s (here .speed)
 
-  number-is : here .answer .number ≡ (answerOf end (structure s) (components s) (here .speed)) .number
-  number-is = ap (λ (a : Answer). a .number) other-is
+  first : Demand-1 (speedTests s target room) s allowance (here .answer .number) store (speedStoreAfter s target allowance store)
+  first = demand-1-of (speedTests s target room) s allowance store (speed-numbered s target room) number-is (speed-store-is s target allowance store)
+
+  zeros : (k : ℕ) → 0 < k → here .answer .number ≡ k → here .answer ≡ refusal k
+  zeros k h e = other-is ∙ zeros-by k h end s (here .speed) (sym number-is ∙ e)
 
   -- A refused call has no speed.
-  no-speed : (v : Evaluation Tree) (d k : ℕ) → 0 < k → (answerOf v (structure s) (components s) d) .number ≡ k → speedBy v target (total (components s)) (sheetList s) ≡ 0
-  no-speed (refused n) d k h e = refl
-  no-speed (completed stack pairs) d k h e = absurd (omega arith)
+  no-speed : (v : Evaluation Tree) (k : ℕ) → 0 < k → endNumber v ≡ k → speedBy v target (total (components s)) (sheetList s) ≡ 0
+  no-speed (refused n) k h e = refl
+  no-speed (completed stack pairs) k h e = absurd (omega arith)
 
-  -- Where the number is not 16, the tests have the number of an ordinary call's.
-  same-number : (here .answer .number ≡ 16 → ⊥) → firstBroken (speedTests s target room) ≡ firstBroken (callTests s room)
-  same-number h = sym (number-then s room (targetTests target)) ∙ go (firstBroken (callTests s room)) refl (outside 1 thousandths target) refl
-    where
-      go : (k : ℕ) → firstBroken (callTests s room) ≡ k → (b : Bool) → outside 1 thousandths target ≡ b → cond (eqb k 0) (cond b 16 0) k ≡ k
-      go (suc k) e b f = rw (ne-eqb (suc k) 0 (λ z. omega arith))
-      go zero e false f = refl
-      go zero e true f =
-          let n : firstBroken (speedTests s target room) ≡ 16 = sym (number-then s room (targetTests target)) ∙ rw (e, f) in
-          absurd (h (number-is ∙ ap (λ (m : ℕ). (answerOf (endingAt m s allowance) (structure s) (components s) (here .speed)) .number) n))
+  -- Its own test has the number 16 where it is broken.
+  own-broken : (b : Bool) → (_≡_ {A = ℕ} (cond b 16 0) 16) ↔ (b ≡ true)
+  own-broken true = (λ e. refl, λ e. refl)
+  own-broken false = (λ e. absurd (omega arith), λ e. absurd (false≢true e))
+
+  own-only : (b : Bool) (k : ℕ) → 0 < k → cond b 16 0 ≡ k → k ≡ 16
+  own-only true k h e = sym e
+  own-only false k h e = absurd (omega arith)
+
+  same-tests : (here .answer .number ≡ 16 → ⊥) → firstBroken (speedTests s target room) ≡ firstBroken (callTests s room)
+  same-tests h = same-number s allowance store (targetTests target) number-is (λ k l f e. h (e ∙ own-only (outside 1 thousandths target) k l f))
 
   as-ordinary : (here .answer .number ≡ 16 → ⊥) → here .answer ≡ answer s (here .speed) allowance room
   as-ordinary h =
-      other-is ∙ (ap (λ (n : ℕ). answerOf (endingAt n s allowance) (structure s) (components s) (here .speed)) (same-number h)
+      other-is ∙ (ap (λ (n : ℕ). answerOf (endingAt n s allowance) (structure s) (components s) (here .speed)) (same-tests h)
       ∙ sym (answer-is s (here .speed) allowance room))
 
   store-as-ordinary : (here .answer .number ≡ 16 → ⊥) → speedStoreAfter s target allowance store ≡ storeAfter s allowance store
   store-as-ordinary h =
-      speed-store-is s target allowance store ∙ (ap (λ (n : ℕ). storeAt n s allowance store) (same-number h) ∙ sym (store-is s allowance store))
+      speed-store-is s target allowance store ∙ (ap (λ (n : ℕ). storeAt n s allowance store) (same-tests h) ∙ sym (store-is s allowance store))
 
   -- An accepted call.
   module _ (e : here .answer .number ≡ 0) where
@@ -103,7 +105,7 @@ module _ (s : List ℕ) (target allowance : ℕ) (store : List ℕ) where
     list-speed : here .speed ≡ speedFor target (total (components s)) (sheetList s)
     list-speed =
         speed-is
-        ∙ ap (λ (v : Evaluation Tree). speedBy v target (total (components s)) (sheetList s)) (passes (speedTests s target room) s (here .speed) allowance store pass)
+        ∙ ap (λ (v : Evaluation Tree). speedBy v target (total (components s)) (sheetList s)) (passes (speedTests s target room) s allowance store pass)
 
     greatest : GreatestDemand target (here .answer .total) (beliefAt s target allowance store) (here .speed)
     greatest =
@@ -116,53 +118,28 @@ module _ (s : List ℕ) (target allowance : ℕ) (store : List ℕ) where
         (greatest-of (sym whole) (second .list-belief)
         (speed-greatest target (total (components s)) above (second .list-ordered) (rw sum (mul-le-mul-right (total (components s)) (inside .1)))))
 
-  -- 16 is the number of no other test.
-  sixteen-found : here .answer .number ≡ 16 → Every Unbroken (callTests s room) × ((target < 1) ⊎ (thousandths < target))
-  sixteen-found e = by (first .refused-by 16 (omega arith) .0 e)
-    where
-      go : (k : ℕ) → firstBroken (callTests s room) ≡ k → (b : Bool) → outside 1 thousandths target ≡ b → cond (eqb k 0) (cond b 16 0) k ≡ 16
-          → Every Unbroken (callTests s room) × (outside 1 thousandths target ≡ true)
-      go zero z true f q = (call-numbered s room .kept z, f)
-      go zero z false f q = absurd (omega arith)
-      go (suc k) z b f q =
-          let m : suc k ≡ 16 = rw (ne-eqb (suc k) 0 (λ z. omega arith)) at q in
-          absurd (false≢true (sym (number-never (λ n. eqb n 16) refl (callTests s room) refl) ∙ ap (λ n. eqb n 16) (z ∙ m)))
-
-      beyond : outside 1 thousandths target ≡ true → (target < 1) ⊎ (thousandths < target)
-      beyond o = elim (ℕ-discrete target 0) [
-        | yes z ↦ inl (omega arith)
-        | no n ↦ inr (ltb-true thousandths target (rw (le-ltb target 1 (omega arith)) at o))
-      ]
-
-      by : Broken (speedTests s target room) s allowance 16 → Every Unbroken (callTests s room) × ((target < 1) ⊎ (thousandths < target))
-      by (by-join u (inl p) q) = absurd (omega arith)
-      by (by-join u (inr p) q) = absurd (omega arith)
-      by (by-test f) =
-          let (u, o) = go (firstBroken (callTests s room)) refl (outside 1 thousandths target) refl
-          (number-then s room (targetTests target) ∙ refused-by (speedTests s target room) 16 (omega arith) .1 f) in
-          (u, beyond o)
-
-  sixteen-said : Every Unbroken (callTests s room) × ((target < 1) ⊎ (thousandths < target)) → here .answer .number ≡ 16
-  sixteen-said (u, o) = first .refused-by 16 (omega arith) .1 (by-test (first-behind u (here-first (broken o) refl)))
-    where
-      broken : (target < 1) ⊎ (thousandths < target) → outside 1 thousandths target ≡ true
-      broken (inl h) = rw (lt-ltb target 1 h)
-      broken (inr h) = rw (lt-ltb thousandths target h, le-ltb target 1 (omega arith))
+  sixteen : (here .answer .number ≡ 16) ↔ (Every Unbroken (callTests s room) × ((target < 1) ⊎ (thousandths < target)))
+  sixteen =
+      let own = number-own s allowance store (targetTests target) first 16 (omega arith) refl refl in
+      let b = own-broken (outside 1 thousandths target) in
+      let o = beyond 1 thousandths target in
+      (λ e. (own .0 e .0, o .0 (b .0 (own .0 e .1))), λ (u, h). own .1 (u, b .1 (o .1 h)))
 
   speed-small : here .speed ≤ 65535
   speed-small = elim (ℕ-discrete (here .answer .number) 0) [
     | yes e ↦
         let most = speed-most target (total (components s)) 65535 (every-map (λ f h. omega (arith, h .0)) (drive-fits (valid e) .0)) in
         omega (arith, list-speed e, most)
-    | no n ↦ omega (arith, speed-is, no-speed end (here .speed) (here .answer .number) (omega arith) (sym number-is))
+    | no n ↦ omega (arith, speed-is, no-speed end (here .answer .number) (omega arith) (sym number-is))
   ]
 
   pub speed-met : SpeedMet s target allowance store
   speed-met = record {
     first = first;
-    sixteen = (sixteen-found, sixteen-said);
+    sixteen = sixteen;
+    zeros = zeros;
     speed-fits = omega (arith, speed-small);
-    speed-zero = λ k h e. speed-is ∙ no-speed end (here .speed) k h (sym number-is ∙ e);
+    speed-zero = λ k h e. speed-is ∙ no-speed end k h (sym number-is ∙ e);
     as-ordinary = as-ordinary;
     store-as-ordinary = store-as-ordinary;
     greatest = greatest;
@@ -173,6 +150,6 @@ module _ (s : List ℕ) (target allowance : ℕ) (store : List ℕ) where
 
   pub speed-answer-fits : Fits64 allowance (here .answer)
   speed-answer-fits = elim (ℕ-discrete (here .answer .number) 16) [
-    | yes e ↦ rw (first .zeros 16 (omega arith) e) (refusal-fits allowance 16)
+    | yes e ↦ rw (zeros 16 (omega arith) e) (refusal-fits allowance 16)
     | no n ↦ rw (as-ordinary n) (answer-fits s (here .speed) allowance store)
   ]

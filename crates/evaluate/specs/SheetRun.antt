@@ -4,29 +4,30 @@ use mathlib.Core.Bool.{cond}
 use mathlib.Core.List.{List}
 use lib.Dec.{eqb}
 use lib.ListN.{length}
-use Rattle.theory.specs.Masses.{total}
 use Rattle.theory.specs.Structure.{Tree}
-use Rattle.theory.specs.Evaluation.{Evaluation, completed, refused}
+use Rattle.theory.specs.Evaluation.{Evaluation}
 use Rattle.plan.specs.Tests.{firstBroken}
 use Rattle.queries.specs.declared.Shares.{Shares}
 use Rattle.evaluate.specs.declared.Answer.{Answer}
 use Rattle.evaluate.specs.declared.SheetRun.{SheetRun}
 use Rattle.run.specs.Run.{needed}
-use Rattle.evaluate.specs.Answer.{planOf, components, sheetList, callTests, evaluated, testedFirst}
+use Rattle.evaluate.specs.Answer.{planOf, components, structure, sheetList, callTests, evaluated, testedFirst, refusal, answerOf}
 use Rattle.evaluate.specs.Store.{storeBy}
 
 -- The number of a call's tests: 1 to 12, then `own`, the number of its own tests.
 abbrev pub numberThen : List ℕ → ℕ → ℕ → ℕ
 numberThen sheet room own = cond (eqb (firstBroken (callTests sheet room)) 0) own (firstBroken (callTests sheet room))
 
--- A refusal's number and zeros; or 0, U, the pairs formed and the length of the drive's list.
+-- An answer without its shares.
+abbrev pub withoutShares : Answer → SheetRun
+withoutShares a = record { number = a .number; total = a .total; pairs = a .pairs; intervals = a .intervals }
+
+-- A refusal's number and zeros; or 0, U, the pairs formed and the length of the drive's list: those of an ordinary call, at any demand.
 abbrev pub refusedRun : ℕ → SheetRun
-refusedRun number = record { number = number; total = 0; pairs = 0; intervals = 0 }
+refusedRun number = withoutShares (refusal number)
 
 abbrev pub sheetRunOf : Evaluation Tree → List ℕ → SheetRun
-sheetRunOf (refused number) sheet = refusedRun number
-sheetRunOf (completed stack pairs) sheet =
-    record { number = 0; total = total (components sheet); pairs = pairs; intervals = length (sheetList sheet) }
+sheetRunOf end sheet = withoutShares (answerOf end (structure sheet) (components sheet) 0)
 
 -- What a call ends in, and the store after it, by the number of its tests.
 abbrev pub endingAt : ℕ → List ℕ → ℕ → Evaluation Tree

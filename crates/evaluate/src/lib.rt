@@ -10,6 +10,7 @@ ghost use Rattle.evaluate.specs.Answer.{testedOf, answer};
 ghost use Rattle.evaluate.specs.Store.{isLate, storeAfter};
 ghost use Rattle.evaluate.specs.SheetRun.{refusedRun, sheetRun, storeThen, answerFrom};
 ghost use Rattle.evaluate.specs.Speed.{targetTests, speedAnswer, speedStoreAfter};
+ghost use Rattle.evaluate.specs.Set.{demandTests, setAnswer, setStoreAfter, sharesAfter};
 use plan::Plan;
 use queries::Shares;
 use reading::Reading;
@@ -32,13 +33,13 @@ pub struct SpeedAnswer {
     pub speed: u64,
 }
 
-// What tests and run answer, before the list is asked: the number of the refusal and zeros, or 0, the total U, the pairs formed and the
-// length of the drive's list.
-struct SheetRun {
-    number: u8,
-    total: u64,
-    pairs: u64,
-    intervals: usize,
+// What tests and run answer, before the list is asked, and what a call for a set of demands answers beside the shares: the number of the
+// refusal and zeros, or 0, the total U, the pairs formed and the length of the drive's list.
+pub struct SheetRun {
+    pub number: u8,
+    pub total: u64,
+    pub pairs: u64,
+    pub intervals: usize,
 }
 
 // The tests that every call has first, on a store of `room` bytes: the number of the first that is broken, or 0, and the plan.
@@ -156,4 +157,35 @@ pub fn speed(sheet: &[u8], target: u32, allowance: u32, store: &mut [u8]) -> Spe
         answer: a,
         speed: v,
     }
+}
+
+// The number of a set of `count` demands with `bytes` bytes for their shares: 17 unless there are 1 to 16, then 18 unless each has 16 bytes.
+fn demands_number(count: usize, bytes: usize) -> u8
+    ensures { λ r. ⌜ r ≡ firstBroken (demandTests count bytes) ⌝ }
+{
+    let uncounted = plan::either(count < 1, theory::MOST_DEMANDS < count);
+    let short = bytes / queries::SHARES_BYTES < count;
+    plan::first(17, uncounted, plan::first(18, short, 0))
+}
+
+// The call for a set of demands. It answers for any sheet, demands, allowance, store and shares' buffer, and leaves every byte of the store as
+// `setStoreAfter` says and every byte of the shares' buffer as `sharesAfter` says. The plan is read and run once.
+pub fn set(
+    sheet: &[u8],
+    demands: &[u32],
+    allowance: u32,
+    store: &mut [u8],
+    shares: &mut [u8],
+) -> SheetRun
+    ensures { λ r. ⌜ r ≡ setAnswer (now (sheet .entry)) (now (demands .entry)) allowance (length (now (store .entry))) (length (now (shares .entry))) ⌝ }
+    ensures { λ _. ⌜ now (store .exit) ≡ setStoreAfter (now (sheet .entry)) (now (demands .entry)) allowance (now (store .entry)) (length (now (shares .entry))) ⌝ }
+    ensures { λ _. ⌜ now (shares .exit) ≡ sharesAfter (now (sheet .entry)) (now (demands .entry)) allowance (length (now (store .entry))) (now (shares .entry)) ⌝ }
+{
+    let own = demands_number(demands.len(), shares.len());
+    let a = run_sheet(sheet, own, allowance, store);
+    if a.number != 0 {
+        return a;
+    }
+    queries::put_set(store, a.intervals, demands, shares);
+    a
 }

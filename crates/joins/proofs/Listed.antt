@@ -1,6 +1,6 @@
 -- What a component lists, one interval after the other. Assumes nothing.
 use mathlib.Core.Path.{_≡_, ap, _∙_}
-use mathlib.Core.List.{List, [], _∷_, _++_, map}
+use mathlib.Core.List.{List, map}
 use Prim.Native.Nat.{ℕ, zero, suc, _+_, _≤_}
 use native.Mathlib.Numerals.{add-one}
 use native.Mathlib.Omega.{arith}
@@ -9,15 +9,12 @@ use Rattle.theory.specs.Sums.{countFrom}
 use Rattle.theory.specs.Focal.{Focal, focalAt}
 use Rattle.theory.specs.Order.{inserted, collect}
 use Rattle.theory.specs.declared.Component.{Component}
+use Rattle.theory.proofs.Sums.{map-count}
 use Rattle.theory.proofs.Lists.{length-insert, collect-snoc}
 
 -- The list of the first i intervals.
 abbrev pub collected : Component → ℕ → List Focal
 collected c i = collect (map (focalAt c) (countFrom 0 i))
-
-map-count : (f : ℕ → Focal) (k n j : ℕ) → k + n ≡ j → map f (countFrom k (suc n)) ≡ map f (countFrom k n) ++ (f j ∷ [])
-map-count f k zero j e = let e2 : k ≡ j = omega arith in ap (λ (i : ℕ). f i ∷ []) e2
-map-count f k (suc n) j e = ap (λ (l : List Focal). f k ∷ l) (map-count f (suc k) n j (omega arith))
 
 collected-suc : (c : Component) (i : ℕ) → collected c (suc i) ≡ inserted (focalAt c i) (collected c i)
 collected-suc c i = ap collect (map-count (focalAt c) 0 i i (omega arith)) ∙ collect-snoc (map (focalAt c) (countFrom 0 i)) (focalAt c i)

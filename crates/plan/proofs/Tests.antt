@@ -1,6 +1,7 @@
 -- What it means that no element of a list passes a test. Assumes nothing.
-use borrow.Author.Tests.{ltb-false, le-ltb}
+use borrow.Author.Tests.{ltb-true, ltb-false, lt-ltb, le-ltb}
 use mathlib.Core.Path.{_≡_, refl, sym, ap, subst, _∙_}
+use mathlib.Core.Logic.{_↔_, _⊎_, inl, inr}
 use mathlib.Core.Bool.{Bool, true, false, _||_, or-false, or-true, or-assoc}
 use mathlib.Core.List.{List, [], _∷_, map}
 use Prim.Native.Nat.{ℕ, zero, suc, _+_, _≤_, _<_}
@@ -76,6 +77,17 @@ pub within : (lowest highest x : ℕ) → outside lowest highest x ≡ false →
 within lowest highest x e =
     let s = neither (ltb x lowest) (ltb highest x) e in
     (ltb-false x lowest (s .0), ltb-false highest x (s .1))
+
+pub beyond : (lowest highest x : ℕ) → (outside lowest highest x ≡ true) ↔ ((x < lowest) ⊎ (highest < x))
+beyond lowest highest x = (go (ltb x lowest) refl, back)
+  where
+    go : (b : Bool) → ltb x lowest ≡ b → (b || ltb highest x) ≡ true → (x < lowest) ⊎ (highest < x)
+    go true e o = inl (ltb-true x lowest e)
+    go false e o = inr (ltb-true highest x o)
+
+    back : (x < lowest) ⊎ (highest < x) → outside lowest highest x ≡ true
+    back (inl h) = rw (lt-ltb x lowest h)
+    back (inr h) = rw (lt-ltb highest x h) (or-true (ltb x lowest))
 
 pub not-outside : (lowest highest x : ℕ) → lowest ≤ x → x ≤ highest → outside lowest highest x ≡ false
 not-outside lowest highest x a b = rw (le-ltb x lowest a, le-ltb highest x b)

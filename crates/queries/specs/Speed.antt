@@ -1,11 +1,10 @@
 -- What the search for a speed asks of its caller; the speed is theory's `speedFor`. Assumes nothing.
-use Prim.Native.Nat.{ℕ, _*_, _^_, _≤_, _<_}
+use Prim.Native.Nat.{ℕ, _≤_, _<_}
 use mathlib.Core.List.{List}
-use lib.ListN.{length}
-use Rattle.theory.specs.Limits.{recordBytes, thousandths}
-use Rattle.theory.specs.Focal.{weights}
+use Rattle.theory.specs.Limits.{thousandths}
 use Rattle.theory.specs.Order.{InOrder}
 use Rattle.records.specs.Records.{records}
+use Rattle.queries.specs.Shares.{Readable}
 
 -- The target is 1 to 1,000 thousandths of a total above 0.
 pub record ValidTarget (target total : ℕ) : Type 0 where
@@ -13,9 +12,8 @@ pub record ValidTarget (target total : ℕ) : Type 0 where
   pub most : target ≤ thousandths
   pub total-positive : 0 < total
 
--- The first n records of s are a list in order whose weights fit 64 bits. A list that is not empty is asked with a valid target.
+-- The first n records of s can be read and are in order. A list that is not empty is asked with a valid target.
 pub record Searchable (s : List ℕ) (n target total : ℕ) : Type 0 where
-  pub room : recordBytes * n ≤ length s
-  pub fits : weights (records n s) < 2 ^ 64
+  pub readable : Readable s n
   pub ordered : InOrder (records n s)
   pub asked : 0 < n → ValidTarget target total

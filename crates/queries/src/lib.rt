@@ -1,17 +1,20 @@
-// What is asked of a list of records: its shares at a demand, and the speed for a target.
+// What is asked of a list of records: its shares at a demand and at each of a set of demands, and the speed for a target.
 ghost use mathlib.Core.Path.{_≡_};
 ghost use mathlib.Core.Bool.{cond};
-ghost use Prim.Native.Nat.{_*_, _^_, _≤_, _<_};
+ghost use mathlib.Core.List.{_++_};
+ghost use Prim.Native.Nat.{_+_, _*_, _≤_};
 ghost use lib.Dec.{leb};
-ghost use lib.ListN.{length};
-ghost use Rattle.theory.specs.Limits.{recordBytes, thousandths};
-ghost use Rattle.theory.specs.Focal.{weights};
+ghost use lib.ListN.{length, take, drop};
+ghost use Rattle.theory.specs.Limits.{thousandths};
 ghost use Rattle.theory.specs.Speed.{meets, speedFor};
 ghost use Rattle.records.specs.Records.{records};
-ghost use Rattle.queries.specs.Shares.{sharesOf};
+ghost use Rattle.queries.specs.Shares.{sharesOf, sharesBytes, encodeShares, encodeSet, Readable};
 ghost use Rattle.queries.specs.Speed.{Searchable};
 use records::SPEED_LIMIT;
 use theory::THOUSANDTHS;
+
+// The bytes of the two shares at one demand.
+pub const SHARES_BYTES: usize = 16;
 
 // Belief and plausibility of a list at a demand, over the sum of its weights.
 pub struct Shares {
@@ -28,8 +31,7 @@ fn counted(end: u64, weight: u64, demand: u64) -> u64
 
 // Belief and plausibility of the first n records at a demand.
 pub fn shares_at(s: &[u8], n: usize, demand: u64) -> Shares
-    requires { ⌜ recordBytes * n ≤ length (now s) ⌝ }
-    requires { ⌜ weights (records n (now s)) < 2 ^ 64 ⌝ }
+    requires { ⌜ Readable (now s) n ⌝ }
     ensures { λ r. ⌜ r ≡ sharesOf demand (records n (now (s .entry))) ⌝ }
 {
     let mut belief: u64 = 0;
@@ -45,6 +47,29 @@ pub fn shares_at(s: &[u8], n: usize, demand: u64) -> Shares
     Shares {
         belief,
         plausibility,
+    }
+}
+
+// Writes the shares at place i.
+fn put_shares(out: &mut [u8], i: usize, shares: Shares)
+    requires { ⌜ sharesBytes * (i + 1) ≤ length (now out) ⌝ }
+    ensures { λ _. ⌜ now (out .exit) ≡ take (sharesBytes * i) (now (out .entry)) ++ (encodeShares shares ++ drop (sharesBytes * (i + 1)) (now (out .entry))) ⌝ }
+{
+    numbers::write_number(out, SHARES_BYTES * i, 8, shares.belief);
+    numbers::write_number(out, SHARES_BYTES * i + 8, 8, shares.plausibility);
+}
+
+// Writes the shares of the first n records at each demand, in the order asked. The list is walked once for each.
+pub fn put_set(s: &[u8], n: usize, demands: &[u32], out: &mut [u8])
+    requires { ⌜ Readable (now s) n ⌝ }
+    requires { ⌜ sharesBytes * length (now demands) ≤ length (now out) ⌝ }
+    ensures { λ _. ⌜ now (out .exit) ≡ encodeSet (now (demands .entry)) (records n (now (s .entry))) ++ drop (sharesBytes * length (now (demands .entry))) (now (out .entry)) ⌝ }
+{
+    let m = demands.len();
+    for i in 0..m {
+        let demand = demands[i] as u64;
+        let shares = shares_at(s, n, demand);
+        put_shares(out, i, shares);
     }
 }
 

@@ -94,12 +94,13 @@ module _ (es : List Entry) {cs : List Component} (r : AllInRange cs) where
       → Bounding side (a * total cs) (shares side d (outcomes es cs) * b)
   tight side d a b h = rw (share-met side r es d, total-at-one cs) at (h (allAt side))
 
-  pub bounds : Bounds es cs (total cs) (λ d. belief d (outcomes es cs)) (λ d. plausibility d (outcomes es cs))
-  bounds = record {
-    least = λ D d. at-least (share-bound lower (D .scale) es (D .divides) d);
-    greatest = λ D d. at-most (share-bound upper (D .scale) es (D .divides) d);
-    least-met = (allAt lower, met lower);
-    greatest-met = (allAt upper, met upper);
-    least-tight = λ d a b h. at-least (tight lower d a b (λ D. least (h D)));
-    greatest-tight = λ d a b h. at-most (tight upper d a b (λ D. greatest (h D)));
+  pub bounds : {I : Type 0} (demandAt : I → ℕ)
+      → Bounds es cs (total cs) demandAt (λ i. belief (demandAt i) (outcomes es cs)) (λ i. plausibility (demandAt i) (outcomes es cs))
+  bounds demandAt = record {
+    least = λ D i. at-least (share-bound lower (D .scale) es (D .divides) (demandAt i));
+    greatest = λ D i. at-most (share-bound upper (D .scale) es (D .divides) (demandAt i));
+    least-met = (allAt lower, λ i. met lower (demandAt i));
+    greatest-met = (allAt upper, λ i. met upper (demandAt i));
+    least-tight = λ i a b h. at-least (tight lower (demandAt i) a b (λ D. least (h D)));
+    greatest-tight = λ i a b h. at-most (tight upper (demandAt i) a b (λ D. greatest (h D)));
   }

@@ -3,13 +3,14 @@ use Prim.Native.Nat.{ℕ, _+_, _*_, _≤_, Ordering, Ordering·lt, Ordering·eq,
 use mathlib.Core.Path.{_≡_, refl, sym, ap, ap₂, _∙_}
 use mathlib.Core.Bool.{Bool, true, false, cond, _&&_}
 use mathlib.Core.List.{List, [], _∷_}
-use native.Mathlib.Nat.{add-mul, mul-one}
+use native.Mathlib.Nat.{le-refl, le-trans, add-mul, mul-one}
 use native.Mathlib.Omega.{arith}
 use lib.Dec.{leb, eqb}
-use borrow.Author.Tests.{eq-eqb}
+use borrow.Author.Tests.{eq-eqb, leb-true, le-leb}
 use Rattle.theory.specs.Sums.{sumBy, Every}
 use Rattle.theory.specs.Focal.{Focal, weights, Positive}
 use Rattle.theory.specs.Choices.{weightWhere, belief, plausibility, weightAt}
+use Rattle.theory.specs.Bounds.{Antitone}
 use Rattle.theory.specs.Order.{order, Before, InOrder, merged, insertedAt, inserted, collect}
 use Rattle.theory.proofs.Sums.{sum-ext, sum-le, cond-mul}
 use Rattle.theory.proofs.Order.{Placed, placed, before-trans, before-apart}
@@ -69,13 +70,24 @@ every-collect P m (Every.more {x = f} p r) = every-insert P m f p (every-collect
 pub positive-collect : {fs : List Focal} → Every Positive fs → Every Positive (collect fs)
 positive-collect = every-collect Positive (λ g h q t. omega arith)
 
--- The weights that pass a test are never above the sum of all.
-pub where-le : (test : ℕ → ℕ → Bool) (fs : List Focal) → weightWhere test fs ≤ weights fs
-where-le test = sum-le (λ f. at-most (test (f .low) (f .high)) (f .weight))
+-- The weights that pass a test are never above those that pass a weaker one,
+where-mono : {strong weak : ℕ → ℕ → Bool} → ((low high : ℕ) → strong low high ≡ true → weak low high ≡ true)
+    → (fs : List Focal) → weightWhere strong fs ≤ weightWhere weak fs
+where-mono {strong} {weak} h = sum-le (λ f. go (strong (f .low) (f .high)) (f .weight) (h (f .low) (f .high)))
   where
-    at-most : (b : Bool) (w : ℕ) → cond b w 0 ≤ w
-    at-most true w = omega arith
-    at-most false w = omega arith
+    go : (a : Bool) (w : ℕ) {b : Bool} → (a ≡ true → b ≡ true) → cond a w 0 ≤ cond b w 0
+    go true w k = rw (k refl) (le-refl w)
+    go false w k = omega arith
+
+-- nor above the sum of all;
+pub where-le : (test : ℕ → ℕ → Bool) (fs : List Focal) → weightWhere test fs ≤ weights fs
+where-le test = where-mono {strong = test} {weak = λ low high. true} (λ low high e. refl)
+
+-- so a share by one end of the intervals, belief by the low and plausibility by the high, does not rise with the demand.
+pub share-antitone : {I : Type 0} (demandAt : I → ℕ) (end : ℕ → ℕ → ℕ) (fs : List Focal)
+    → Antitone demandAt (λ i. weightWhere (λ low high. leb (demandAt i) (end low high)) fs)
+share-antitone demandAt end fs i j h =
+    where-mono (λ low high e. le-leb (demandAt i) (end low high) (le-trans h (leb-true (demandAt j) (end low high) e))) fs
 
 -- The weights that pass a test are a weighted sum: so belief, plausibility, the weight at an interval and the sum of the weights are kept.
 where-weigh : (test : ℕ → ℕ → Bool) (fs : List Focal) → weightWhere test fs ≡ weigh (λ a b. cond (test a b) 1 0) fs

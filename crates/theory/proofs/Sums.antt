@@ -98,6 +98,11 @@ map-shift : {A : Type 0} (f : ℕ → A) (k n : ℕ) → map f (countFrom (suc k
 map-shift f k zero = refl
 map-shift f k (suc n) = ap (λ xs. f (suc k) ∷ xs) (map-shift f (suc k) n)
 
+-- One number more.
+pub map-count : {A : Type 0} (f : ℕ → A) (k n j : ℕ) → k + n ≡ j → map f (countFrom k (suc n)) ≡ map f (countFrom k n) ++ (f j ∷ [])
+map-count f k zero j e = let e2 : k ≡ j = omega arith in ap (λ (i : ℕ). f i ∷ []) e2
+map-count f k (suc n) j e = ap (λ xs. f k ∷ xs) (map-count f (suc k) n j (omega arith))
+
 -- A list is the list of its elements by their places.
 pub map-places : {A : Type 0} (d : A) (xs : List A) → map (λ j. getD xs j d) (countFrom 0 (length xs)) ≡ xs
 map-places d [] = refl

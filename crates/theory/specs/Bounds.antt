@@ -1,4 +1,5 @@
--- Demand 3: what it means that two functions of the demand bound the share of time of every division, and are met. Assumes nothing.
+-- Demand 3: what it means that two functions of the demand bound the share of time of every division, and are met; and that shares do not
+-- rise with the demand. Assumes nothing.
 use Prim.Native.Nat.{ℕ, _*_, _≤_}
 use mathlib.Core.Path.{_≡_}
 use mathlib.Core.List.{List}
@@ -17,14 +18,18 @@ module _ (es : List Entry) (cs : List Component) where
   abbrev pub ShareIs : Division cs → ℕ → ℕ → ℕ → Type 0
   ShareIs D d a b = shareAbove es (D .parts) d * b ≡ a * shareTotal (D .scale) cs
 
--- `low` and `high`, each over `whole`, at every demand d:
-pub record Bounds (es : List Entry) (cs : List Component) (whole : ℕ) (low high : ℕ → ℕ) : Type 0 where
+-- `low` and `high`, each over `whole`, at each demand that is asked, which is `demandAt i` for an i of I:
+pub record Bounds {I : Type 0} (es : List Entry) (cs : List Component) (whole : ℕ) (demandAt low high : I → ℕ) : Type 0 where
   -- no division has a share below the one or above the other;
-  pub least : (D : Division cs) (d : ℕ) → ShareAtLeast es cs D d (low d) whole
-  pub greatest : (D : Division cs) (d : ℕ) → ShareAtMost es cs D d (high d) whole
+  pub least : (D : Division cs) (i : I) → ShareAtLeast es cs D (demandAt i) (low i) whole
+  pub greatest : (D : Division cs) (i : I) → ShareAtMost es cs D (demandAt i) (high i) whole
   -- one division meets the one at every demand, and one the other;
-  pub least-met : (D : Division cs) × ((d : ℕ) → ShareIs es cs D d (low d) whole)
-  pub greatest-met : (D : Division cs) × ((d : ℕ) → ShareIs es cs D d (high d) whole)
+  pub least-met : (D : Division cs) × ((i : I) → ShareIs es cs D (demandAt i) (low i) whole)
+  pub greatest-met : (D : Division cs) × ((i : I) → ShareIs es cs D (demandAt i) (high i) whole)
   -- so at any one demand no fraction a / b that bounds every division is better.
-  pub least-tight : (d a b : ℕ) → ((D : Division cs) → ShareAtLeast es cs D d a b) → a * whole ≤ low d * b
-  pub greatest-tight : (d a b : ℕ) → ((D : Division cs) → ShareAtMost es cs D d a b) → high d * b ≤ a * whole
+  pub least-tight : (i : I) (a b : ℕ) → ((D : Division cs) → ShareAtLeast es cs D (demandAt i) a b) → a * whole ≤ low i * b
+  pub greatest-tight : (i : I) (a b : ℕ) → ((D : Division cs) → ShareAtMost es cs D (demandAt i) a b) → high i * b ≤ a * whole
+
+-- Of two demands the greater never has the greater share.
+abbrev pub Antitone : {I : Type 0} → (I → ℕ) → (I → ℕ) → Type 0
+Antitone {I} demandAt shareAt = (i j : I) → demandAt i ≤ demandAt j → shareAt j ≤ shareAt i

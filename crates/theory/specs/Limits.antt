@@ -45,3 +45,7 @@ storeBytes = 16384
 -- A target is a share in thousandths, 1 to 1,000.
 abbrev pub thousandths : ℕ
 thousandths = 1000
+
+-- The most demands of one call.
+abbrev pub mostDemands : ℕ
+mostDemands = 16

@@ -24,6 +24,8 @@ pub const STORE_BYTES: usize = 16384;
 
 pub const THOUSANDTHS: u64 = 1000;
 
+pub const MOST_DEMANDS: usize = 16;
+
 // A module: up to eight intervals of speed with their weights, the first `count` places in use, and its total T.
 pub struct Component {
     pub lows: [u16; MOST_HELD],

@@ -1,2 +1,3 @@
--- A plan as bytes.
+-- What C hosts pass as bytes: a plan, the demands of a set.
 pub mod Wire
+pub mod Demands

@@ -1,4 +1,4 @@
-// A plan as bytes, as C hosts pass it: numbers of 16 bits at fixed places, most significant byte first.
+// What C hosts pass as bytes, most significant first: a plan, as numbers of 16 bits at fixed places; the demands of a set, 32 bits each.
 ghost use mathlib.Core.Path.{_≡_};
 ghost use mathlib.Core.List.{_++_};
 ghost use Prim.Native.Nat.{_+_, _*_, _≤_};
@@ -6,6 +6,7 @@ ghost use lib.ListN.{length, drop};
 ghost use Rattle.theory.specs.Limits.{mostHeld, mostEntries};
 ghost use Rattle.wire.specs.Wire.{numberBytes, componentSize, entriesStart, planBytes, numberIn, numbersIn, decodeComponent, decodePlan};
 ghost use Rattle.wire.specs.Wire.{withNumbers, componentNumbersOf, encodePlan};
+ghost use Rattle.wire.specs.Demands.{demandBytes, demandCount, demandAt, decodeDemands};
 use plan::Plan;
 use theory::Component;
 
@@ -138,4 +139,45 @@ pub fn encode_plan(out: &mut [u8], p: Plan)
         encode_component(out, 1 + COMPONENT_SIZE * i, p.components[i]);
     }
     encode_numbers(out, ENTRIES_START, &entries);
+}
+
+const DEMAND_BYTES: usize = 4;
+
+// The demands of a set: the first `count` places are used.
+pub struct Demands {
+    pub values: [u32; theory::MOST_DEMANDS],
+    pub count: usize,
+}
+
+// How many demands so many bytes are: none where they are not 4 times 1 to 16.
+fn demand_count(bytes: usize) -> usize
+    ensures { λ r. ⌜ r ≡ demandCount bytes ⌝ }
+{
+    if bytes % DEMAND_BYTES != 0 {
+        return 0;
+    }
+    if DEMAND_BYTES * theory::MOST_DEMANDS < bytes {
+        return 0;
+    }
+    bytes / DEMAND_BYTES
+}
+
+// Demand i.
+fn demand_in(s: &[u8], i: usize) -> u32
+    requires { ⌜ demandBytes * (i + 1) ≤ length (now s) ⌝ }
+    ensures { λ r. ⌜ r ≡ demandAt (now (s .entry)) i ⌝ }
+{
+    numbers::read_number(s, DEMAND_BYTES * i, DEMAND_BYTES) as u32
+}
+
+// The demands that the bytes spell.
+pub fn decode_demands(s: &[u8]) -> Demands
+    ensures { λ r. ⌜ r ≡ decodeDemands (now (s .entry)) ⌝ }
+{
+    let n = demand_count(s.len());
+    let mut values = [0u32; theory::MOST_DEMANDS];
+    for i in 0..n {
+        values[i] = demand_in(s, i);
+    }
+    Demands { values, count: n }
 }

@@ -1,13 +1,13 @@
 -- `evaluate::bounds` meets its contract: tests and run, and the shares of the list. Assumes nothing.
 use Prim.Native.Nat.{ℕ}
-use mathlib.Core.Path.{sym, ap, _∙_}
+use mathlib.Core.Path.{refl, sym, ap, _∙_}
 use mathlib.Core.List.{List}
 use lib.ListN.{length}
 use Rattle.queries.specs.Shares.{sharesOf}
 use Rattle.evaluate.specs.SheetRun.{endingAt, storeAt}
 use Rattle.evaluate.specs.Answer.{components, structure, answerOf}
 use Rattle.evaluate.proofs.Numbers.{number-alone, answer-is, store-is}
-use Rattle.evaluate.proofs.Finish.{end, askedList, Readable, readable, answer-asked}
+use Rattle.evaluate.proofs.Finish.{end, PastRun, past-run, answer-asked}
 use borrow.Author.Needs.{needs}
 use Rattle.evaluate.proofs.bounds.Statement.{statement}
 use Rattle.evaluate.proofs.bounds.Tie as tie
@@ -26,11 +26,11 @@ module _ (c : tie.After-run-sheet) where
   abbrev after : List ℕ
   after = c .run-sheet .last .1 .1 .1 .0
 
-  read : Readable (askedList (end sheet 0 (start .args .allowance) store) sheet) (c .run-sheet .result .intervals) after
-  read = readable sheet 0 (start .args .allowance) store (c .run-sheet .result) after (c .run-sheet .ensures .0) (c .run-sheet .ensures .1)
+  past : PastRun sheet 0 (start .args .allowance) store (c .run-sheet .result) after
+  past = past-run sheet 0 (start .args .allowance) store refl (c .run-sheet .result) after (c .run-sheet .ensures .0) (c .run-sheet .ensures .1)
 
 shares-at-requires : tie.Need-shares-at-requires
-shares-at-requires c κs = let r = c .before .before .before in (read r .room, read r .fits)
+shares-at-requires c κs = past (c .before .before .before) .list .readable
 
 returns : tie.Need-returns
 returns c =
@@ -38,7 +38,7 @@ returns c =
     let r = h .before .before .before .before in
     let a = start r .args in
     let number = number-alone (sheet r) (length (store r)) in
-    let shares = h .shares-at .ensures ∙ ap (sharesOf (a .demand)) (read r .list-is) in (
+    let shares = h .shares-at .ensures ∙ ap (sharesOf (a .demand)) (past r .list .list-is) in (
       c .answer-from .ensures
           ∙ (answer-asked (sheet r) (a .demand) (end (sheet r) 0 (a .allowance) (store r)) (r .run-sheet .ensures .0) shares
           ∙ (ap (λ (n : ℕ). answerOf (endingAt n (sheet r) (a .allowance)) (structure (sheet r)) (components (sheet r)) (a .demand)) number

@@ -14,10 +14,10 @@ use Rattle.queries.specs.Shares.{sharesOf}
 use Rattle.evaluate.specs.declared.SheetRun.{SheetRun}
 use Rattle.evaluate.specs.Answer.{components, structure, sheetList, answerOf}
 use Rattle.evaluate.specs.Store.{isLate}
-use Rattle.evaluate.specs.SheetRun.{numberThen, sheetRunOf, endingAt, storeAt}
+use Rattle.evaluate.specs.SheetRun.{sheetRunOf, endingAt, storeAt}
 use Rattle.evaluate.specs.Speed.{targetTests, speedBy, speedAnswerOf}
 use Rattle.evaluate.proofs.Numbers.{number-then, speed-answer-is, speed-store-is}
-use Rattle.evaluate.proofs.Finish.{end, askedList, Readable, readable, target-asked, answer-asked}
+use Rattle.evaluate.proofs.Finish.{end, askedList, PastRun, past-run, target-asked, answer-asked}
 use borrow.Author.Needs.{needs}
 use Rattle.evaluate.proofs.speed.Statement.{statement}
 use Rattle.evaluate.proofs.speed.Tie as tie
@@ -52,17 +52,10 @@ module _ (c : tie.After-run-sheet) where
   abbrev ending : Evaluation Tree
   ending = end sheet own (start .args .allowance) store
 
-  number-is : c .before .before .target-number .result ≡ own
-  number-is = c .before .before .target-number .ensures
-
-  ran : c .run-sheet .result ≡ sheetRunOf ending sheet
-  ran = c .run-sheet .ensures .0 ∙ ap (λ (n : ℕ). sheetRunOf (end sheet n (start .args .allowance) store) sheet) number-is
-
-  stored : after ≡ storeAt (numberThen sheet (length store) own) sheet (start .args .allowance) store
-  stored = c .run-sheet .ensures .1 ∙ ap (λ (n : ℕ). storeAt (numberThen sheet (length store) n) sheet (start .args .allowance) store) number-is
-
-  read : Readable (askedList ending sheet) (c .run-sheet .result .intervals) after
-  read = readable sheet own (start .args .allowance) store (c .run-sheet .result) after ran stored
+  past : PastRun sheet own (start .args .allowance) store (c .run-sheet .result) after
+  past =
+      past-run sheet own (start .args .allowance) store (c .before .before .target-number .ensures) (c .run-sheet .result) after
+      (c .run-sheet .ensures .0) (c .run-sheet .ensures .1)
 
 run-sheet-requires : tie.Need-run-sheet-requires
 run-sheet-requires c κs = ap isLate (c .before .target-number .ensures) ∙ early (c .before .before .before .before .args .target)
@@ -72,14 +65,13 @@ speed-for-requires c κs =
     let r = c .before .before .before in
     let a = start r .args in
     record {
-      room = read r .room;
-      fits = read r .fits;
-      ordered = read r .ordered;
-      asked = target-asked (sheet r) (a .target) (a .allowance) (store r) (r .run-sheet .result) (ran r);
+      readable = past r .list .readable;
+      ordered = past r .list .ordered;
+      asked = target-asked (sheet r) (a .target) (a .allowance) (store r) (r .run-sheet .result) (past r .ran);
     }
 
 shares-at-requires : tie.Need-shares-at-requires
-shares-at-requires c κs = let r = c .before .before .before .before .before in (read r .room, read r .fits)
+shares-at-requires c κs = past (c .before .before .before .before .before) .list .readable
 
 returns : tie.Need-returns
 returns c =
@@ -88,15 +80,15 @@ returns c =
     let r = v .before .before .before .before in
     let a = start r .args in
     let number = number-then (sheet r) (length (store r)) (targetTests (a .target)) in
-    let speed = v .speed-for .ensures ∙ (ap (speedFor (a .target) (r .run-sheet .result .total)) (read r .list-is) ∙ speed-asked (sheet r) (a .target) (ending r) (ran r)) in
+    let speed = v .speed-for .ensures ∙ (ap (speedFor (a .target) (r .run-sheet .result .total)) (past r .list .list-is) ∙ speed-asked (sheet r) (a .target) (ending r) (past r .ran)) in
     let other =
     c .answer-from .ensures
-    ∙ answer-asked (sheet r) (v .speed-for .result) (ending r) (ran r) (h .shares-at .ensures ∙ ap (sharesOf (v .speed-for .result)) (read r .list-is)) in (
+    ∙ answer-asked (sheet r) (v .speed-for .result) (ending r) (past r .ran) (h .shares-at .ensures ∙ ap (sharesOf (v .speed-for .result)) (past r .list .list-is)) in (
       (λ i. record { answer = other i; speed = v .speed-for .result })
           ∙ (ap (λ (w : ℕ). record { answer = answerOf (ending r) (structure (sheet r)) (components (sheet r)) w; speed = w }) speed
           ∙ (ap (λ (n : ℕ). speedAnswerOf (endingAt n (sheet r) (a .allowance)) (structure (sheet r)) (components (sheet r)) (a .target)) number
           ∙ sym (speed-answer-is (sheet r) (a .target) (a .allowance) (length (store r))))),
-      stored r ∙ (ap (λ (n : ℕ). storeAt n (sheet r) (a .allowance) (store r)) number ∙ sym (speed-store-is (sheet r) (a .target) (a .allowance) (store r))),
+      past r .stored ∙ (ap (λ (n : ℕ). storeAt n (sheet r) (a .allowance) (store r)) number ∙ sym (speed-store-is (sheet r) (a .target) (a .allowance) (store r))),
     )
 
 pub speed-spec : {M : Type 1} → statement M

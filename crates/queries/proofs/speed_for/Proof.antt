@@ -132,10 +132,10 @@ speed-for-spec =
     μ-loop
     loop-holds
     (λ c. omega (arith, c .if1 .left))
-    (λ c κs. omega (arith, inside c, start c .pre .room))
-    (λ c. omega (arith, sum-is c, sum-fits c, start (c .before) .pre .fits))
+    (λ c κs. omega (arith, inside c, start c .pre .readable .room))
+    (λ c. omega (arith, sum-is c, sum-fits c, start (c .before) .pre .readable .fits))
     (λ c κs. asked (c .before) .most)
-    (λ c κs. omega (arith, inside (c .before .before .before), start (c .before .before .before) .pre .room))
+    (λ c κs. omega (arith, inside (c .before .before .before), start (c .before .before .before) .pre .readable .room))
     (λ c. omega (arith, inside (c .before .before .before)))
     loop-again
     returns

@@ -1,0 +1,2 @@
+-- What is proved of the questions of a list.
+pub mod Encoding
