@@ -6,8 +6,8 @@
  *   belief         the share of time at or above the demand that the logs vouch for;
  *   plausibility   the share that nothing in the logs rules out.
  * Both are exact. Wherever inside the logged intervals the modules ran, the true share lies between the two, as long as the modules
- * are independent of each other (see "From logs to a plan"). Another call, drive_speed, starts from a share of the time and answers
- * the greatest speed that the logs vouch for at that share.
+ * are independent of each other (see "From logs to a plan"). drive_set answers the same for up to sixteen demands at once. Another
+ * call, drive_speed, starts from a share of the time and answers the greatest speed that the logs vouch for at that share.
  *
  * Link libdrive.a or libdrive.so (x86-64 Linux, System V calling convention):
  *   cc -Ihost program.c target/staticlib/libdrive.a     (in the repository, after rt staticlib drive)
@@ -38,8 +38,8 @@
  *         printf("%u.%02u %% to %u.%02u %%\n", belief / 100, belief % 100, plausibility / 100, plausibility % 100);
  *     }
  *
- * It prints 78.40 % to 98.00 %. host/example.c has a whole chair, host/example_table.c a table of demands from one call,
- * host/example_speed.c the speeds that a catalogue can print.
+ * It prints 78.40 % to 98.00 %. host/example.c has a whole chair, host/example_set.c the demands of a fitting from one call,
+ * host/example_table.c a table of demands from the drive's list, host/example_speed.c the speeds that a catalogue can print.
  *
  * Words
  *   module     a part of the drive, numbered from 0 in the order of the plan.
@@ -89,9 +89,9 @@ extern "C" {
 
 /* The version of this header and of the library that it came with. The soname has the first number. */
 #define DRIVE_VERSION_MAJOR 1
-#define DRIVE_VERSION_MINOR 1
+#define DRIVE_VERSION_MINOR 2
 #define DRIVE_VERSION_PATCH 0
-#define DRIVE_VERSION "1.1.0"
+#define DRIVE_VERSION "1.2.0"
 
 /* The limits of a plan of edition one, and the codes of its joins. Edition two will have others. */
 #define DRIVE_MODULES_MAX 6
@@ -107,13 +107,17 @@ extern "C" {
 #define DRIVE_LIST_INTERVALS_MAX 256 /* of a join's list */
 #define DRIVE_PAIRS_MAX 66688        /* no sheet forms more: two groups of three modules, 2 * (64 + 512) + 256 * 256 */
 #define DRIVE_TARGET_MAX 1000        /* thousandths: all of the time */
+#define DRIVE_DEMANDS_MAX 16         /* of one call of drive_set */
 
 /* What buffers need. */
 #define DRIVE_PLAN_BYTES 336        /* a plan */
 #define DRIVE_SHEET_BYTES_MAX 224   /* the longest sheet */
 #define DRIVE_LENGTH_BYTES 8        /* the answer of drive_write_sheet */
-#define DRIVE_LIST_BYTES 16384      /* the list buffer of drive_bounds and drive_speed */
+#define DRIVE_LIST_BYTES 16384      /* the list buffer of drive_bounds, drive_set and drive_speed */
 #define DRIVE_ANSWER_BYTES 40       /* the answer of drive_bounds */
+#define DRIVE_SET_ANSWER_BYTES 24   /* the answer of drive_set, beside the shares */
+#define DRIVE_DEMAND_BYTES 4        /* each demand of drive_set */
+#define DRIVE_SHARES_BYTES 16       /* the shares of drive_set, for each demand */
 #define DRIVE_SPEED_ANSWER_BYTES 48 /* the answer of drive_speed */
 #define DRIVE_RECORD_BYTES 12       /* one record of the list */
 #define DRIVE_STACK_BYTES 16384     /* more stack than any call takes, the first one included */
@@ -250,13 +254,13 @@ static inline uint32_t drive_plan_read_entry(const uint8_t *plan, uint64_t i) {
     return drive_plan_get(plan, DRIVE_AT_ENTRY + i);
 }
 
-/* The four calls. Each returns its number: 0, or that of the refusal ("Numbers", below).
+/* The five calls. Each returns its number: 0, or that of the refusal ("Numbers", below).
  *
  * What the caller sees to:
  *   - Each pointer has that many bytes behind it. A pointer may be NULL where its length is 0. No alignment is asked for.
  *   - No buffer overlaps another, and nothing else writes to them during the call.
- *   - DRIVE_STACK_BYTES bytes of stack are left. Measured: up to 9,624 for drive_bounds and drive_speed, and 2,328 for the others;
- *     up to 3,168 more for the first call under lazy binding, where functions of the C library are looked up at their first use.
+ *   - DRIVE_STACK_BYTES bytes of stack are left. Measured: up to 9,624 for drive_bounds, drive_set and drive_speed, and 2,328 for the
+ *     others; up to 3,184 more for the first call under lazy binding, where functions of the C library are looked up at first use.
  * No other input, whatever its bytes, can make a call fail, run on or touch other memory.
  *
  * A call takes no memory from the heap, holds no lock and keeps nothing for the next one. Calls are independent and may run in
@@ -319,6 +323,31 @@ uint32_t drive_read_sheet(const uint8_t *sheet, size_t sheet_length, uint8_t *pl
 uint32_t drive_bounds(const uint8_t *sheet, size_t sheet_length, uint32_t demand, uint32_t allowance, uint8_t *list,
                       size_t list_length, uint8_t *answer, size_t answer_length);
 
+/* Answers what drive_bounds answers, for 1 to 16 demands in one call, as for the kerb, ramp, corridor and road of a fitting. The sheet
+ * is read and run once. The parameters are those of drive_bounds but for these:
+ *   demands, demands_length   in the demand's place: the demands, 4 bytes each, in any order; equal ones are allowed. Fill them with
+ *                             drive_put_demand, which answers the length: it counts bytes, 16 for four demands. 4 for four demands
+ *                             is accepted as one, and the other shares stay as they were. An array of uint32_t has its bytes in
+ *                             another order: it is accepted, with shares of 0 at every demand above 0
+ *   shares, shares_length     belief and plausibility at each demand, 8 bytes apiece, in the order asked: the shares' buffer has
+ *                             DRIVE_SHARES_BYTES for each demand, or more
+ *   answer, answer_length     the answer buffer, behind the shares: exchanged, the two are accepted where both are long enough. Read
+ *                             both with drive_read_shares
+ *
+ *   number            answer, first 24 bytes   shares                      list, first 16,384 bytes
+ *   0                 total, pair count,       16 bytes for each demand,   the drive's list, as drive_bounds leaves it
+ *                     list length              at the front
+ *   13, 14            zero                     unchanged                   zero
+ *   1 to 12, 17, 18   zero                     unchanged                   unchanged
+ *   The three answers have 8 bytes each. What drive_bounds says of the order of the numbers, of a short answer buffer and of 13 and
+ *   14 holds here, with 24 bytes in place of 40, and the shares' buffer then stays unchanged, too. After 12 and before 13 come 17,
+ *   for a demands_length that is not 4 times 1 to 16, and then 18, for a shares' buffer of fewer than 16 bytes for each demand.
+ *   Unchanged is also what an earlier call left there: read shares only where the number is 0.
+ *
+ * Of two demands the greater never has the greater belief or the greater plausibility. */
+uint32_t drive_set(const uint8_t *sheet, size_t sheet_length, const uint8_t *demands, size_t demands_length, uint32_t allowance,
+                   uint8_t *list, size_t list_length, uint8_t *shares, size_t shares_length, uint8_t *answer, size_t answer_length);
+
 /* Answers the speed that can be promised for a share of the time: the greatest demand, of all whole numbers, whose belief is at
  * least that share of the total. The parameters are those of drive_bounds but for two:
  *   target                  in the demand's place: the share in thousandths, 1 to 1,000. 950 is 95.0 % (95 is 9.5 %); what the logs
@@ -355,11 +384,14 @@ uint32_t drive_speed(const uint8_t *sheet, size_t sheet_length, uint32_t target,
     X(9, DRIVE_E_ENTRY, "an entry is missing, is 6, 7 or above 10, or names a module not below n") \
     X(10, DRIVE_E_NAMED, "a module is named twice or never") \
     X(11, DRIVE_E_JOIN, "a join finds fewer than two lists") \
-    X(12, DRIVE_E_BUFFER, "a buffer is too short: plan 336 bytes, writer's answer 8, list 16,384, answer 40 (of drive_speed 48)") \
+    X(12, DRIVE_E_BUFFER, \
+      "a buffer is too short: plan 336 bytes, writer's answer 8, list 16,384, answer 40 (of drive_set 24, of drive_speed 48)") \
     X(13, DRIVE_E_ALLOWANCE, "the pairs formed so far and those of this join exceed the allowance") \
     X(14, DRIVE_E_LIST, "a join's list has more than 256 different intervals") \
     X(15, DRIVE_E_SHEET_BUFFER, "the writer's sheet buffer is shorter than the sheet") \
-    X(16, DRIVE_E_TARGET, "the target is not 1 to 1,000 thousandths")
+    X(16, DRIVE_E_TARGET, "the target is not 1 to 1,000 thousandths") \
+    X(17, DRIVE_E_DEMANDS, "the number of demands is not 1 to 16, or their bytes are not 4 for each") \
+    X(18, DRIVE_E_SHARES_BUFFER, "the shares' buffer has fewer than 16 bytes for each demand")
 
 #define DRIVE_CONSTANT(number, name, words) name = number,
 enum drive_number { DRIVE_NUMBERS(DRIVE_CONSTANT) DRIVE_NUMBER_COUNT };
@@ -376,7 +408,7 @@ static inline const char *drive_message(uint32_t number) {
 /* The sheet's length from the answer buffer of drive_write_sheet. */
 static inline size_t drive_read_length(const uint8_t *answer) { return (size_t)drive_read(answer, DRIVE_LENGTH_BYTES); }
 
-/* The answer buffer of drive_bounds as values. */
+/* The answer buffer of drive_bounds as values. (That of drive_set: drive_read_shares.) */
 struct drive_answer {
     uint64_t total, belief, plausibility, pairs, intervals;
 };
@@ -388,6 +420,26 @@ static inline struct drive_answer drive_read_answer(const uint8_t *answer) {
     a.plausibility = drive_read(answer + 16, 8);
     a.pairs = drive_read(answer + 24, 8);
     a.intervals = drive_read(answer + 32, 8);
+    return a;
+}
+
+/* Puts demand i, i from 0 to 15, among the demands for drive_set, at bytes 4i to 4i + 3. Answers the bytes of the demands 0 to i: after
+ * the last one, demands_length. */
+static inline size_t drive_put_demand(uint8_t *demands, size_t i, uint32_t demand) {
+    for (size_t k = 0; k < DRIVE_DEMAND_BYTES; k++) demands[i * DRIVE_DEMAND_BYTES + k] = (uint8_t)(demand >> (24 - 8 * k) & 255);
+    return (i + 1) * DRIVE_DEMAND_BYTES;
+}
+
+/* The pair of shares at demand i of drive_set, with the other answers: what drive_bounds answers at that demand, as values. i is below
+ * the number of demands. */
+static inline struct drive_answer drive_read_shares(const uint8_t *answer, const uint8_t *shares, size_t i) {
+    const uint8_t *pair = shares + i * DRIVE_SHARES_BYTES;
+    struct drive_answer a;
+    a.total = drive_read(answer, 8);
+    a.belief = drive_read(pair, 8);
+    a.plausibility = drive_read(pair + 8, 8);
+    a.pairs = drive_read(answer + 8, 8);
+    a.intervals = drive_read(answer + 16, 8);
     return a;
 }
 

@@ -1,4 +1,4 @@
-/* A table of demands from one call: the drive's list answers every demand.
+/* A table of demands from one call: the drive's list answers every demand, however many there are.
  *
  * The chair: two hub motors that drive together, and a joystick in series with both. Their logs count minutes and are longer than
  * 1,000 units, so that they are scaled, to the safe side. */

@@ -12,7 +12,7 @@ struct bench {
     struct sheet sheet;
 };
 
-/* A call, or plain C in its place, and the demand or the target that it is asked. */
+/* A call, or plain C in its place, and the demand or the target that it is asked. A set has its demands below. */
 struct ask {
     bounds_fn *function;
     uint32_t asked;
@@ -24,6 +24,10 @@ static uint8_t list[DRIVE_LIST_BYTES], answer[DRIVE_SPEED_ANSWER_BYTES];
 static uint8_t plain_list[DRIVE_LIST_BYTES], plain_answer[DRIVE_SPEED_ANSWER_BYTES];
 
 static size_t room = sizeof list;
+
+/* The demands of a set, and its shares. */
+static uint8_t demands[DRIVE_DEMANDS_MAX * DRIVE_DEMAND_BYTES];
+static uint8_t shares[DRIVE_DEMANDS_MAX * DRIVE_SHARES_BYTES], plain_shares[DRIVE_DEMANDS_MAX * DRIVE_SHARES_BYTES];
 
 static uint32_t call(struct ask a, const struct sheet *s) {
     return a.function(s->bytes, s->length, a.asked, DRIVE_PAIRS_MAX, list, room, answer, sizeof answer);
@@ -57,6 +61,63 @@ static void same_speeds(const struct bench *b) {
     }
 }
 
+static uint32_t demand_of(size_t i) { return (uint32_t)drive_read(demands + i * DRIVE_DEMAND_BYTES, DRIVE_DEMAND_BYTES); }
+
+/* Sixteen demands in no order, from 0 to the greatest speed of the list in the buffer; one stands there twice. */
+static void put_demands(void) {
+    static const uint32_t sixteenths[DRIVE_DEMANDS_MAX] = {9, 2, 14, 0, 11, 5, 16, 7, 3, 12, 1, 15, 6, 9, 10, 4};
+    uint32_t greatest = greatest_high(list, drive_read_answer(answer).intervals);
+    for (size_t i = 0; i < DRIVE_DEMANDS_MAX; i++) drive_put_demand(demands, i, greatest * sixteenths[i] / 16);
+}
+
+/* What is timed for a set: drive_set, plain C, and sixteen calls of drive_bounds, each in the place of one call. */
+static uint32_t set_of_drive(const uint8_t *sheet, size_t sheet_length, uint32_t asked, uint32_t allowance, uint8_t *list_out,
+                             size_t list_length, uint8_t *answer_out, size_t answer_length) {
+    (void)asked;
+    return drive_set(sheet, sheet_length, demands, sizeof demands, allowance, list_out, list_length, shares, sizeof shares,
+                     answer_out, answer_length);
+}
+
+static uint32_t set_of_plain(const uint8_t *sheet, size_t sheet_length, uint32_t asked, uint32_t allowance, uint8_t *list_out,
+                             size_t list_length, uint8_t *answer_out, size_t answer_length) {
+    (void)asked;
+    return plain_set(sheet, sheet_length, demands, sizeof demands, allowance, list_out, list_length, plain_shares,
+                     sizeof plain_shares, answer_out, answer_length);
+}
+
+static uint32_t sixteen_bounds(const uint8_t *sheet, size_t sheet_length, uint32_t asked, uint32_t allowance, uint8_t *list_out,
+                               size_t list_length, uint8_t *answer_out, size_t answer_length) {
+    uint32_t number = 0;
+    (void)asked;
+    for (size_t i = 0; i < DRIVE_DEMANDS_MAX; i++)
+        number |= drive_bounds(sheet, sheet_length, demand_of(i), allowance, list_out, list_length, answer_out, answer_length);
+    return number;
+}
+
+static const struct ask set_asks[ASKS] = {{set_of_drive, 0}, {set_of_plain, 0}, {sixteen_bounds, 0}};
+
+/* The same for a set, and each of its pairs is that of drive_bounds at its demand, with the same list. */
+static uint64_t same_set(const struct bench *b) {
+    uint64_t pairs = same_bounds(b);
+    put_demands();
+    memset(shares, 4, sizeof shares);
+    memset(plain_shares, 5, sizeof plain_shares);
+    same_answers(b, set_asks[0], set_asks[1]);
+    int same = memcmp(shares, plain_shares, sizeof shares) == 0;
+    for (size_t i = 0; i < DRIVE_DEMANDS_MAX; i++) {
+        struct ask bounds = {drive_bounds, demand_of(i)};
+        struct drive_answer at = drive_read_shares(plain_answer, shares, i), want;
+        same &= call(bounds, &b->sheet) == 0 && memcmp(list, plain_list, sizeof list) == 0;
+        want = drive_read_answer(answer);
+        same &= memcmp(&at, &want, sizeof at) == 0;
+    }
+    if (!same) {
+        printf("FAILED %s: sixteen demands, other shares\n", b->name);
+        exit(1);
+    }
+    return pairs;
+}
+
 static double now(void) {
     struct timespec t;
     clock_gettime(CLOCK_MONOTONIC, &t);
@@ -80,13 +141,13 @@ static double median(double *values) {
     return values[TURNS / 2];
 }
 
-/* Turns alternate, and so does who begins, so that the machine's drift meets all alike. The second is plain C. */
+/* Turns alternate, and so does who begins, so that the machine's drift meets all alike. */
 static void time_turns(const struct sheet *s, const struct ask *asks, unsigned count, double *medians) {
     static double turns[ASKS][TURNS];
-    double once = turn(asks[1], s, 20);
-    unsigned calls = 1 + (unsigned)(TURN_NS / once);
+    unsigned calls[ASKS];
+    for (unsigned j = 0; j < count; j++) calls[j] = 1 + (unsigned)(TURN_NS / turn(asks[j], s, 20));
     for (unsigned i = 0; i < TURNS; i++)
-        for (unsigned j = 0; j < count; j++) turns[(i + j) % count][i] = turn(asks[(i + j) % count], s, calls);
+        for (unsigned j = 0, k = i % count; j < count; j++, k = (k + 1) % count) turns[k][i] = turn(asks[k], s, calls[k]);
     for (unsigned j = 0; j < count; j++) medians[j] = median(turns[j]);
 }
 
@@ -107,6 +168,15 @@ static void print_speed(const struct bench *b) {
     adds = ns[0] - ns[2];
     printf("%-22s %9llu %11.0f %11.0f %7.2f", b->name, (unsigned long long)pairs, ns[0], ns[1], ns[0] / ns[1]);
     printf(" %13.0f %9.0f %8.1f\n", ns[2], adds, 100 * adds / ns[2]);
+}
+
+/* drive_set at sixteen demands, beside sixteen calls of drive_bounds. */
+static void print_set(const struct bench *b) {
+    uint64_t pairs = same_set(b);
+    double ns[ASKS];
+    time_turns(&b->sheet, set_asks, ASKS, ns);
+    printf("%-22s %9llu %11.0f %11.0f %7.2f", b->name, (unsigned long long)pairs, ns[0], ns[1], ns[0] / ns[1]);
+    printf(" %17.0f %8.2f\n", ns[2], ns[2] / ns[0]);
 }
 
 static struct bench bench_of(const char *name, struct plan p) {
@@ -158,15 +228,16 @@ int main(int argc, char **argv) {
         fprintf(stderr, "usage: bench [check]\n");
         return 2;
     }
-    for (unsigned i = 0; i < ROWS; i++) same_bounds(&rows[i]), same_speeds(&rows[i]);
-    for (unsigned i = 0; i < GROWTH; i++) same_bounds(&growth[i]), same_speeds(&growth[i]);
+    for (unsigned i = 0; i < ROWS; i++) same_set(&rows[i]), same_speeds(&rows[i]);
+    for (unsigned i = 0; i < GROWTH; i++) same_set(&growth[i]), same_speeds(&growth[i]);
     if (check) {
         printf("ok C: the sheets of the bench get the same answers from the calls and from plain C\n");
         return 0;
     }
 
     printf("Nanoseconds a call, the median of %d turns of about %d microseconds each. The turns of the call and of plain C alternate.\n"
-           "The buffers are not cleared between calls; both write all 16,384 bytes of the list and 40 of the answer, or 48.\n\n",
+           "The buffers are not cleared between calls; both write all 16,384 bytes of the list and 40 of the answer (drive_speed 48,\n"
+           "drive_set 24 and 256 of shares).\n\n",
            TURNS, TURN_NS / 1000);
     printf("%-22s %9s %11s %11s %7s\n", "sheet", "pairs", "call", "plain C", "ratio");
     for (unsigned i = 0; i < ROWS; i++) {
@@ -201,5 +272,11 @@ int main(int argc, char **argv) {
     printf("%-22s %9s %11s %11s %7s", "sheet", "pairs", "call", "plain C", "ratio");
     printf(" %13s %9s %8s\n", "drive_bounds", "adds, ns", "adds, %");
     for (unsigned i = 0; i < ROWS; i += ROWS - 1) print_speed(&rows[i]);
+
+    printf("\nSixteen demands in one call: drive_set and the same in plain C; then sixteen calls of drive_bounds, one for each of\n"
+           "the demands, and how many times as long as the one call they take together\n\n");
+    printf("%-22s %9s %11s %11s %7s", "sheet", "pairs", "call", "plain C", "ratio");
+    printf(" %17s %8s\n", "16 x drive_bounds", "times");
+    for (unsigned i = 0; i < ROWS; i += ROWS - 1) print_set(&rows[i]);
     return 0;
 }

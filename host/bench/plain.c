@@ -11,7 +11,11 @@ enum {
     RECORD_BYTES = 12,
     LIST_BYTES = 16384,
     ANSWER_BYTES = 40,
+    SET_ANSWER_BYTES = 24,
     SPEED_ANSWER_BYTES = 48,
+    DEMAND_BYTES = 4,
+    SHARES_BYTES = 16,
+    DEMANDS = 16,
     TARGET_MAX = 1000
 };
 
@@ -193,6 +197,8 @@ static unsigned run(const struct plan *p, uint32_t allowance, struct list lists[
     return 0;
 }
 
+static uint32_t get32(const uint8_t *in) { return (uint32_t)in[0] << 24 | (uint32_t)in[1] << 16 | (uint32_t)in[2] << 8 | in[3]; }
+
 static uint8_t *put32(uint8_t *out, uint32_t value) {
     out[0] = (uint8_t)(value >> 24);
     out[1] = (uint8_t)(value >> 16);
@@ -203,6 +209,26 @@ static uint8_t *put32(uint8_t *out, uint32_t value) {
 
 static uint8_t *put64(uint8_t *out, uint64_t value) {
     return put32(put32(out, (uint32_t)(value >> 32)), (uint32_t)value);
+}
+
+/* The drive's list, then zeros. */
+static void put_list(const struct list *drive, uint8_t *out) {
+    for (unsigned i = 0; i < drive->count; i++) {
+        out = put32(out, drive->focal[i].key);
+        out = put64(out, drive->focal[i].weight);
+    }
+    memset(out, 0, LIST_BYTES - drive->count * RECORD_BYTES);
+}
+
+/* Belief and plausibility at a demand. */
+static uint8_t *put_shares(const struct list *drive, uint32_t demand, uint8_t *out) {
+    uint64_t belief = 0, plausibility = 0;
+    for (unsigned i = 0; i < drive->count; i++) {
+        struct focal f = drive->focal[i];
+        if (f.key >> 16 >= demand) belief += f.weight;
+        if ((f.key & 0xFFFF) >= demand) plausibility += f.weight;
+    }
+    return put64(put64(out, belief), plausibility);
 }
 
 static uint64_t total_of(const struct plan *p) {
@@ -225,53 +251,75 @@ static uint32_t greatest_demand(const struct list *drive, uint64_t least) {
     return drive->focal[i].key >> 16;
 }
 
-/* Both calls. What is asked is a demand or, where the answer has a speed, a target. */
-static uint32_t ask(int has_speed, const uint8_t *sheet, size_t sheet_length, uint32_t asked, uint32_t allowance, uint8_t *list,
-                    size_t list_length, uint8_t *answer, size_t answer_length) {
-    struct plan plan;
+/* A sheet that is read and run. */
+struct job {
     struct list lists[COMPONENTS + 1];
+    struct plan plan;
     const struct list *drive;
-    uint64_t pairs, belief = 0, plausibility = 0;
+    uint64_t pairs;
+};
 
-    unsigned number = read_sheet(sheet, sheet_length, &plan);
-    if (answer_length < (has_speed ? SPEED_ANSWER_BYTES : ANSWER_BYTES)) return number != 0 ? number : 12;
+/* What every call begins with: the number and, where it is not 0, the buffers that go with it. `refused` is the number that refuses
+ * what is asked, or 0; it comes after 12 and before 13. */
+static unsigned start(struct job *j, const uint8_t *sheet, size_t sheet_length, unsigned refused, uint32_t allowance, uint8_t *list,
+                      size_t list_length, uint8_t *answer, size_t answer_length, size_t answer_bytes) {
+    unsigned number = read_sheet(sheet, sheet_length, &j->plan);
+    if (answer_length < answer_bytes) return number != 0 ? number : 12;
     if (number == 0 && list_length < LIST_BYTES) number = 12;
-    if (number == 0 && has_speed && (asked < 1 || asked > TARGET_MAX)) number = 16;
+    if (number == 0) number = refused;
     if (number == 0) {
-        number = run(&plan, allowance, lists, &drive, &pairs);
+        number = run(&j->plan, allowance, j->lists, &j->drive, &j->pairs);
         if (number != 0) memset(list, 0, LIST_BYTES);
     }
-    if (number != 0) {
-        memset(answer, 0, ANSWER_BYTES);
-        if (has_speed) put64(answer + ANSWER_BYTES, 0);
-        return number;
+    if (number != 0) { /* zeros in pieces of fixed length, which the compiler stores at once */
+        memset(answer, 0, SET_ANSWER_BYTES);
+        for (size_t i = SET_ANSWER_BYTES; i < answer_bytes; i += 8) put64(answer + i, 0);
     }
+    return number;
+}
 
-    uint32_t demand = has_speed ? greatest_demand(drive, least_belief(asked, total_of(&plan))) : asked;
-    uint8_t *out = list;
-    for (unsigned i = 0; i < drive->count; i++) {
-        struct focal f = drive->focal[i];
-        if (f.key >> 16 >= demand) belief += f.weight;
-        if ((f.key & 0xFFFF) >= demand) plausibility += f.weight;
-        out = put32(out, f.key);
-        out = put64(out, f.weight);
-    }
-    memset(out, 0, LIST_BYTES - drive->count * RECORD_BYTES);
-    out = put64(answer, total_of(&plan));
-    out = put64(out, belief);
-    out = put64(out, plausibility);
-    out = put64(out, pairs);
-    out = put64(out, drive->count);
-    if (has_speed) put64(out, demand);
-    return 0;
+/* The list and the five answers at a demand; where the sixth goes. */
+static uint8_t *put_bounds(const struct job *j, uint32_t demand, uint8_t *list, uint8_t *answer) {
+    put_list(j->drive, list);
+    answer = put64(answer, total_of(&j->plan));
+    answer = put_shares(j->drive, demand, answer);
+    answer = put64(answer, j->pairs);
+    return put64(answer, j->drive->count);
 }
 
 uint32_t plain_bounds(const uint8_t *sheet, size_t sheet_length, uint32_t demand, uint32_t allowance, uint8_t *list,
                       size_t list_length, uint8_t *answer, size_t answer_length) {
-    return ask(0, sheet, sheet_length, demand, allowance, list, list_length, answer, answer_length);
+    struct job j;
+    unsigned number = start(&j, sheet, sheet_length, 0, allowance, list, list_length, answer, answer_length, ANSWER_BYTES);
+    if (number == 0) put_bounds(&j, demand, list, answer);
+    return number;
 }
 
 uint32_t plain_speed(const uint8_t *sheet, size_t sheet_length, uint32_t target, uint32_t allowance, uint8_t *list,
                      size_t list_length, uint8_t *answer, size_t answer_length) {
-    return ask(1, sheet, sheet_length, target, allowance, list, list_length, answer, answer_length);
+    struct job j;
+    unsigned refused = target < 1 || target > TARGET_MAX ? 16 : 0;
+    unsigned number =
+        start(&j, sheet, sheet_length, refused, allowance, list, list_length, answer, answer_length, SPEED_ANSWER_BYTES);
+    if (number == 0) {
+        uint32_t speed = greatest_demand(j.drive, least_belief(target, total_of(&j.plan)));
+        put64(put_bounds(&j, speed, list, answer), speed);
+    }
+    return number;
+}
+
+uint32_t plain_set(const uint8_t *sheet, size_t sheet_length, const uint8_t *demands, size_t demands_length, uint32_t allowance,
+                   uint8_t *list, size_t list_length, uint8_t *shares, size_t shares_length, uint8_t *answer, size_t answer_length) {
+    struct job j;
+    size_t count = demands_length / DEMAND_BYTES;
+    unsigned refused = shares_length < count * SHARES_BYTES ? 18 : 0;
+    if (demands_length % DEMAND_BYTES != 0 || count < 1 || count > DEMANDS) refused = 17;
+    unsigned number = start(&j, sheet, sheet_length, refused, allowance, list, list_length, answer, answer_length, SET_ANSWER_BYTES);
+    if (number != 0) return number;
+    put_list(j.drive, list);
+    for (size_t i = 0; i < count; i++) shares = put_shares(j.drive, get32(demands + i * DEMAND_BYTES), shares);
+    answer = put64(answer, total_of(&j.plan));
+    answer = put64(answer, j.pairs);
+    put64(answer, j.drive->count);
+    return 0;
 }

@@ -1,7 +1,10 @@
 //! The borders that a run has to meet: values at a limit and one beyond.
 
 use crate::choices::{Focal, Run, MOST};
-use crate::expect::{Asked, Question, Reply, LENGTH_BYTES, LIST_BYTES, TOP_TARGET};
+use crate::expect::{
+    right_length, right_target, Asked, Question, Reply, Set, DEMAND_BYTES, LENGTH_BYTES, LIST_BYTES, MOST_DEMANDS,
+    TOP_TARGET,
+};
 use crate::plan::{Plan, COMPONENTS, INTERVALS, PLAN_BYTES};
 use crate::rules::{self, TOP_SPEED, TOP_TOTAL};
 use crate::sheet;
@@ -33,13 +36,48 @@ borders! {
     DemandAboveHigh: "a demand one above a high",
     DemandZero: "demand 0",
     DemandMost: "demand 2^32 - 1",
+    SetOne: "a set of one demand",
+    SetMost: "a set of sixteen demands",
+    SetAscending: "a set in ascending order, no two demands equal",
+    SetDescending: "a set in descending order, no two demands equal",
+    SetUnordered: "a set in neither order",
+    SetEqual: "equal demands in a set",
+    SetLow: "a demand of a set at a low",
+    SetAboveLow: "a demand of a set one above a low",
+    SetHigh: "a demand of a set at a high",
+    SetAboveHigh: "a demand of a set one above a high",
+    SetEnds: "demand 0 and one above every speed in one set",
+    SetNone: "no demands, refused",
+    SetAboveMost: "demands of 68 bytes, refused",
+    SetPart: "demands of a length below 64 and not divisible by 4, refused",
+    SetPartAboveMost: "demands of a length above 64 and not divisible by 4, refused",
+    SetLowBits: "demands of a length whose low 8 bits would be accepted, refused",
+    SetLongLowBits: "demands of a length whose low 16 bits would be accepted, refused",
+    SetBehindSheet: "demands of a wrong length with a wrong sheet: 1 to 11",
+    SetBehindList: "demands of a wrong length with a short list buffer: 12",
+    SetBehindAnswer: "demands of a wrong length with a short answer buffer: 12",
+    SetBeforeShares: "demands of a wrong length with a short shares' buffer: 17",
+    SetBefore13: "demands of a wrong length where 13 would follow: 17",
+    SetBefore14: "demands of a wrong length where 14 would follow: 17",
+    Shares: "a shares' buffer of 16 bytes for each demand",
+    SharesLess: "a shares' buffer one byte shorter, refused",
+    SharesNone: "a shares' buffer of no bytes, refused",
+    SharesMore: "a shares' buffer with bytes behind the last pair",
+    SharesBehindSheet: "a short shares' buffer with a wrong sheet: 1 to 11",
+    SharesBehindList: "a short shares' buffer with a short list buffer: 12",
+    SharesBehindAnswer: "a short shares' buffer with a short answer buffer: 12",
+    SharesBefore13: "a short shares' buffer where 13 would follow: 18",
+    SharesBefore14: "a short shares' buffer where 14 would follow: 18",
+    SharesStay13: "13 with a shares' buffer that stays",
+    SharesStay14: "14 with a shares' buffer that stays",
     TargetLeast: "a target of 1",
     TargetMost: "a target of 1,000",
     TargetZero: "a target of 0, refused",
     TargetAboveMost: "a target of 1,001, refused",
     TargetLowBits: "a target whose low 16 bits would be accepted, refused",
     TargetBehindSheet: "a wrong target with a wrong sheet: 1 to 11",
-    TargetBehindBuffer: "a wrong target with a short buffer: 12",
+    TargetBehindList: "a wrong target with a short list buffer: 12",
+    TargetBehindAnswer: "a wrong target with a short answer buffer: 12",
     TargetBefore13: "a wrong target where 13 would follow: 16",
     TargetBefore14: "a wrong target where 14 would follow: 16",
     TargetExact: "a target below 1,000 that belief meets exactly",
@@ -54,6 +92,8 @@ borders! {
     ListLess: "a list buffer of 16,383 bytes, refused",
     Answer: "an answer buffer of 40 bytes",
     AnswerLess: "an answer buffer of 39 bytes, refused",
+    SetAnswer: "an answer buffer of 24 bytes for a set",
+    SetAnswerLess: "an answer buffer of 23 bytes for a set, refused",
     SpeedAnswer: "an answer buffer of 48 bytes for a speed",
     SpeedAnswerLess: "an answer buffer of 47 bytes for a speed, refused",
     Length: "a writer's answer buffer of 8 bytes",
@@ -66,6 +106,8 @@ borders! {
     PlanBack: "a plan written and read back",
     SheetBack: "a sheet read and written back",
     Null: "NULL for an empty buffer",
+    SetNull: "NULL for no demands",
+    SharesNull: "NULL for a shares' buffer of no bytes",
 }
 
 /// How often each border was met.
@@ -110,18 +152,22 @@ impl Borders {
         self.met(Border::Speeds, number == 0 && stopped && fastest);
     }
 
-    /// A call of drive_bounds or drive_speed that has to return this number.
+    /// A call of drive_bounds, drive_set or drive_speed that has to return this number.
     pub fn of_question(&mut self, question: &Question, number: u32) {
         self.met(Border::List, number == 0 && question.list == LIST_BYTES);
         self.met(Border::ListLess, number == 12 && question.list + 1 == LIST_BYTES);
-        let (exact, less) = match question.asked {
+        let (exact, less) = match &question.asked {
             Asked::Demand(demand) => {
-                self.met(Border::DemandZero, number == 0 && demand == 0);
-                self.met(Border::DemandMost, number == 0 && demand == u32::MAX);
+                self.met(Border::DemandZero, number == 0 && *demand == 0);
+                self.met(Border::DemandMost, number == 0 && *demand == u32::MAX);
                 (Border::Answer, Border::AnswerLess)
             }
+            Asked::Set(set) => {
+                self.of_set(set, number);
+                (Border::SetAnswer, Border::SetAnswerLess)
+            }
             Asked::Target(target) => {
-                self.of_target(target, number);
+                self.of_target(*target, number);
                 (Border::SpeedAnswer, Border::SpeedAnswerLess)
             }
         };
@@ -130,15 +176,76 @@ impl Borders {
         self.met(less, number == 12 && question.answer + 1 == needed);
     }
 
+    fn of_set(&mut self, set: &Set, number: u32) {
+        let (length, most) = (set.demands.len(), DEMAND_BYTES * MOST_DEMANDS);
+        let part = length % DEMAND_BYTES != 0;
+        self.met(Border::SetNone, number == 17 && length == 0);
+        self.met(Border::SetAboveMost, number == 17 && length == most + DEMAND_BYTES);
+        self.met(Border::SetPart, number == 17 && part && length < most);
+        self.met(Border::SetPartAboveMost, number == 17 && part && length > most);
+        self.met(Border::SetLowBits, number == 17 && right_length(length & 255));
+        self.met(Border::SetLongLowBits, number == 17 && right_length(length & 65_535));
+        self.met(Border::SetBeforeShares, number == 17 && set.short());
+        self.met(Border::SharesLess, number == 18 && set.shares + 1 == set.needed());
+        self.met(Border::SharesNone, number == 18 && set.shares == 0);
+        self.met(Border::SharesStay13, number == 13);
+        self.met(Border::SharesStay14, number == 14);
+        if number != 0 {
+            return;
+        }
+        let values = set.values();
+        let all = |ordered: fn(&u32, &u32) -> bool| values.windows(2).all(|pair| ordered(&pair[0], &pair[1]));
+        let several = values.len() > 1;
+        self.met(Border::SetOne, !several);
+        self.met(Border::SetMost, values.len() == MOST_DEMANDS);
+        self.met(Border::SetAscending, several && all(u32::lt));
+        self.met(Border::SetDescending, several && all(u32::gt));
+        self.met(Border::SetUnordered, !all(u32::le) && !all(u32::ge));
+        self.met(Border::SetEqual, (1..values.len()).any(|place| values[..place].contains(&values[place])));
+        self.met(Border::Shares, set.shares == set.needed());
+        self.met(Border::SharesMore, set.shares > set.needed());
+    }
+
     fn of_target(&mut self, target: u32, number: u32) {
-        let wrong = |target: u32| Asked::Target(target).wrong();
         self.met(Border::TargetLeast, number == 0 && target == 1);
         self.met(Border::TargetMost, number == 0 && target == TOP_TARGET);
         self.met(Border::TargetZero, number == 16 && target == 0);
         self.met(Border::TargetAboveMost, number == 16 && target == TOP_TARGET + 1);
-        self.met(Border::TargetLowBits, number == 16 && !wrong(target & 65_535));
-        self.met(Border::TargetBehindSheet, wrong(target) && (1..=11).contains(&number));
-        self.met(Border::TargetBehindBuffer, wrong(target) && number == 12);
+        self.met(Border::TargetLowBits, number == 16 && right_target(target & 65_535));
+    }
+
+    /// A call that 16, 17 or 18 would refuse, were it not for the numbers before, and the numbers that would follow.
+    pub fn of_order(&mut self, question: &Question, run: Option<&Run>, number: u32) {
+        let [sheet, list, answer, before_13, before_14] = match question.asked.number() {
+            16 => [
+                Border::TargetBehindSheet,
+                Border::TargetBehindList,
+                Border::TargetBehindAnswer,
+                Border::TargetBefore13,
+                Border::TargetBefore14,
+            ],
+            17 => [
+                Border::SetBehindSheet,
+                Border::SetBehindList,
+                Border::SetBehindAnswer,
+                Border::SetBefore13,
+                Border::SetBefore14,
+            ],
+            18 => [
+                Border::SharesBehindSheet,
+                Border::SharesBehindList,
+                Border::SharesBehindAnswer,
+                Border::SharesBefore13,
+                Border::SharesBefore14,
+            ],
+            _ => return,
+        };
+        self.met(sheet, (1..=11).contains(&number));
+        self.met(list, number == 12 && question.short_list());
+        self.met(answer, number == 12 && question.short_answer());
+        let next = run.filter(|_| number > 12).map(|run| run.number(question.allowance));
+        self.met(before_13, next == Some(13));
+        self.met(before_14, next == Some(14));
     }
 
     pub fn of_run(&mut self, run: &Run, question: &Question, expected: &Reply) {
@@ -146,9 +253,6 @@ impl Borders {
         let joins = &run.joins;
         self.met(Border::Intervals257, number == 14 && joins[joins.len() - 1].intervals == MOST + 1);
         self.met(Border::AllowanceLess, number == 13 && joins.iter().any(|join| join.pairs == allowance + 1));
-        let late = if number == 16 { run.number(question.allowance) } else { 0 };
-        self.met(Border::TargetBefore13, late == 13);
-        self.met(Border::TargetBefore14, late == 14);
         if number != 0 {
             return;
         }
@@ -157,20 +261,29 @@ impl Borders {
         self.met(Border::Pairs66688, run.pairs() == 66_688);
         self.met(Border::Choices262144, run.choices == INTERVALS.pow(COMPONENTS as u32));
         self.met(Border::Total, run.total == 10u64.pow(18));
-        match question.asked {
-            Asked::Demand(demand) => self.of_demand(&run.list, demand.into()),
-            Asked::Target(target) => {
-                let [.., speed] = expected.answers;
-                self.of_speed(run, target, speed as u32);
+        match &question.asked {
+            Asked::Demand(demand) => {
+                let at = [Border::DemandLow, Border::DemandAboveLow, Border::DemandHigh, Border::DemandAboveHigh];
+                self.of_demands(&run.list, &[*demand], at);
             }
+            Asked::Set(set) => {
+                let (values, above) = (set.values(), |demand: &u32| run.plausibility(*demand) == 0);
+                self.met(Border::SetEnds, values.contains(&0) && values.iter().any(above));
+                let at = [Border::SetLow, Border::SetAboveLow, Border::SetHigh, Border::SetAboveHigh];
+                self.of_demands(&run.list, &values, at);
+            }
+            Asked::Target(target) => self.of_speed(run, *target, expected.answers.first().demand),
         }
     }
 
-    fn of_demand(&mut self, list: &[Focal], demand: u64) {
-        self.met(Border::DemandLow, list.iter().any(|focal| u64::from(focal.low) == demand));
-        self.met(Border::DemandHigh, list.iter().any(|focal| u64::from(focal.high) == demand));
-        self.met(Border::DemandAboveLow, list.iter().any(|focal| u64::from(focal.low) + 1 == demand));
-        self.met(Border::DemandAboveHigh, list.iter().any(|focal| u64::from(focal.high) + 1 == demand));
+    /// Demands at a low, one above a low, at a high, and one above a high of the drive's list.
+    fn of_demands(&mut self, list: &[Focal], demands: &[u32], at: [Border; 4]) {
+        let [low, above_low, high, above_high] = at;
+        let any = |end: fn(&Focal) -> u32| list.iter().map(end).any(|end| demands.contains(&end));
+        self.met(low, any(|focal| focal.low));
+        self.met(above_low, any(|focal| focal.low + 1));
+        self.met(high, any(|focal| focal.high));
+        self.met(above_high, any(|focal| focal.high + 1));
     }
 
     fn of_speed(&mut self, run: &Run, target: u32, speed: u32) {

@@ -1,11 +1,8 @@
-//! The library's four calls. All that is unsafe stands here.
+//! The library's five calls. All that is unsafe stands here.
 
 use std::ptr;
 
 use crate::expect::Asked;
-
-/// drive_bounds and drive_speed differ in what their first number means.
-type Ask = unsafe extern "C" fn(*const u8, usize, u32, u32, *mut u8, usize, *mut u8, usize) -> u32;
 
 extern "C" {
     fn drive_bounds(
@@ -15,6 +12,19 @@ extern "C" {
         allowance: u32,
         list: *mut u8,
         list_length: usize,
+        answer: *mut u8,
+        answer_length: usize,
+    ) -> u32;
+    fn drive_set(
+        sheet: *const u8,
+        sheet_length: usize,
+        demands: *const u8,
+        demands_length: usize,
+        allowance: u32,
+        list: *mut u8,
+        list_length: usize,
+        shares: *mut u8,
+        shares_length: usize,
         answer: *mut u8,
         answer_length: usize,
     ) -> u32;
@@ -57,25 +67,44 @@ fn written(bytes: &mut [u8], null: bool) -> *mut u8 {
     }
 }
 
-// Safety of the four: slices that do not overlap, each pointer with its own slice's length.
+// Safety of the five: slices that do not overlap, each pointer with its own slice's length.
 
-/// drive_bounds or drive_speed.
-pub fn ask(sheet: &[u8], asked: Asked, allowance: u32, list: &mut [u8], answer: &mut [u8], null: bool) -> u32 {
-    let (call, number): (Ask, u32) = match asked {
-        Asked::Demand(demand) => (drive_bounds, demand),
-        Asked::Target(target) => (drive_speed, target),
-    };
-    unsafe {
-        call(
-            read(sheet, null),
-            sheet.len(),
-            number,
-            allowance,
-            written(list, null),
-            list.len(),
-            written(answer, null),
-            answer.len(),
-        )
+/// What is lent to drive_bounds, drive_set or drive_speed. Only drive_set gets the demands and the shares' buffer.
+pub struct Lent<'a> {
+    pub sheet: &'a [u8],
+    pub demands: &'a [u8],
+    pub list: &'a mut [u8],
+    pub shares: &'a mut [u8],
+    pub answer: &'a mut [u8],
+}
+
+/// drive_bounds, drive_set or drive_speed.
+pub fn ask(asked: &Asked, allowance: u32, lent: Lent, null: bool) -> u32 {
+    let (sheet, sheet_length) = (read(lent.sheet, null), lent.sheet.len());
+    let (list, list_length) = (written(lent.list, null), lent.list.len());
+    let (answer, answer_length) = (written(lent.answer, null), lent.answer.len());
+    match asked {
+        Asked::Demand(demand) => unsafe {
+            drive_bounds(sheet, sheet_length, *demand, allowance, list, list_length, answer, answer_length)
+        },
+        Asked::Target(target) => unsafe {
+            drive_speed(sheet, sheet_length, *target, allowance, list, list_length, answer, answer_length)
+        },
+        Asked::Set(_) => unsafe {
+            drive_set(
+                sheet,
+                sheet_length,
+                read(lent.demands, null),
+                lent.demands.len(),
+                allowance,
+                list,
+                list_length,
+                written(lent.shares, null),
+                lent.shares.len(),
+                answer,
+                answer_length,
+            )
+        },
     }
 }
 

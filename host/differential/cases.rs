@@ -1,12 +1,13 @@
-//! What a case puts to a call: a sheet or a plan, a demand or a target, an allowance, the lengths of the buffers.
+//! What a case puts to a call: a sheet or a plan, a demand, a set of them or a target, an allowance, the lengths of the
+//! buffers.
 
 use crate::choices::Run;
 use crate::damage::{self, break_plan, litter, OF_PLAN, RULES_OF_PLAN};
-use crate::expect::{Asked, Question, LIST_BYTES, TOP_TARGET};
+use crate::expect::{Asked, Question, Set, DEMAND_BYTES, LIST_BYTES, MOST_DEMANDS, SHARES_BYTES, TOP_TARGET};
 use crate::plan::Plan;
 use crate::random::Random;
 use crate::sheet::pack;
-use crate::tally::SPEED;
+use crate::tally::{SET, SPEED};
 use crate::valid;
 
 /// A sheet: that of the plan, with one rule broken, with several, or spoiled at random.
@@ -73,17 +74,18 @@ pub fn valid_sheet(random: &mut Random) -> Vec<u8> {
     pack(&valid::any(random))
 }
 
-/// A question to drive_bounds or to drive_speed about a sheet with this run, or with none.
+/// A question to drive_bounds, drive_set or drive_speed about a sheet with this run, or with none.
 pub fn question(random: &mut Random, call: usize, run: Option<&Run>) -> Question {
     let asked = match call {
+        SET => Asked::Set(set(random, run)),
         SPEED => Asked::Target(target(random, run)),
         _ => Asked::Demand(demand(random, run)),
     };
     Question {
-        asked,
         allowance: allowance(random, run),
         list: length(random, LIST_BYTES, 8),
         answer: length(random, asked.answer_bytes(), 8),
+        asked,
     }
 }
 
@@ -105,6 +107,46 @@ fn demand(random: &mut Random, run: Option<&Run>) -> u32 {
         13 => end + (random.between(1, 65_535) << 16) as u32, // its low bits are an end
         14 => random.between(0, 25_000) as u32,
         _ => random.next() as u32,
+    }
+}
+
+/// One to sixteen demands, some in order and some equal, or bytes of a wrong length; and the length of the shares'
+/// buffer.
+fn set(random: &mut Random, run: Option<&Run>) -> Set {
+    let any = random.between(1, MOST_DEMANDS);
+    let count = random.pick(&[1, MOST_DEMANDS, any, any]);
+    let mut demands: Vec<u32> = (0..count).map(|_| demand(random, run)).collect();
+    match random.below(8) {
+        0 => demands.sort(),
+        1 => demands.sort_by(|left, right| right.cmp(left)),
+        2 => demands = vec![demands[0]; count],
+        3 => demands[random.below(count)] = demands[random.below(count)],
+        _ => {}
+    }
+    let wrong = random.chance(12);
+    let mut bytes = vec![0; if wrong { wrong_length(random) } else { DEMAND_BYTES * count }];
+    random.fill(&mut bytes);
+    for (place, demand) in bytes.chunks_exact_mut(DEMAND_BYTES).zip(demands) {
+        place.copy_from_slice(&demand.to_be_bytes());
+    }
+    let whole = (bytes.len() / DEMAND_BYTES).clamp(1, MOST_DEMANDS + 1);
+    let shares = length(random, SHARES_BYTES * whole, if wrong { 30 } else { 8 });
+    Set { demands: bytes, shares }
+}
+
+/// A length that one to sixteen demands do not have.
+fn wrong_length(random: &mut Random) -> usize {
+    let right = DEMAND_BYTES * random.between(1, MOST_DEMANDS);
+    let part = random.between(1, DEMAND_BYTES - 1);
+    let most = DEMAND_BYTES * MOST_DEMANDS;
+    match random.below(8) {
+        0 => 0,
+        1 | 2 => most + DEMAND_BYTES,
+        3 => right - part,
+        4 => right + part,
+        5 => most + part,
+        6 => most + random.between(1, 1_000),
+        _ => random.pick(&[256, 65_536]) + right, // its low bits would be accepted
     }
 }
 

@@ -2,14 +2,14 @@
 
 use crate::borders::Border;
 use crate::buffer::Buffer;
-use crate::call;
+use crate::call::{self, Lent};
 use crate::cases;
 use crate::choices;
-use crate::expect::{self, Asked, Question, Reply, LENGTH_BYTES};
+use crate::expect::{self, Asked, Question, Reply, Shares, DEMAND_BYTES, LENGTH_BYTES, MOST_DEMANDS};
 use crate::plan::{Plan, PLAN_BYTES};
 use crate::random::Random;
 use crate::sheet;
-use crate::tally::{Tally, BOUNDS, CALLS, READ, SPEED, WRITE};
+use crate::tally::{Tally, BOUNDS, CALLS, READ, SET, SPEED, WRITE};
 
 /// Nothing, or what differs and the bytes that show it.
 type Outcome = Result<(), String>;
@@ -18,7 +18,9 @@ type Outcome = Result<(), String>;
 #[derive(Default)]
 pub struct Comparison {
     sheet: Buffer,
+    demands: Buffer,
     list: Buffer,
+    shares: Buffer,
     answer: Buffer,
     plan: Buffer,
     pub tally: Tally,
@@ -37,7 +39,8 @@ impl Comparison {
 
     fn drawn(&mut self, random: &mut Random) -> Outcome {
         match random.below(100) {
-            0..=39 => self.ask(random, BOUNDS),
+            0..=19 => self.ask(random, BOUNDS),
+            20..=39 => self.ask(random, SET),
             40..=59 => self.ask(random, SPEED),
             60..=74 => {
                 let plan = cases::plan(random);
@@ -52,7 +55,7 @@ impl Comparison {
         }
     }
 
-    /// Asks drive_bounds or drive_speed.
+    /// Asks drive_bounds, drive_set or drive_speed.
     fn ask(&mut self, random: &mut Random, call: usize) -> Outcome {
         let sheet = &cases::sheet_to_run(random)[..];
         let run = sheet::read(sheet).map(|plan| choices::run(&plan));
@@ -63,15 +66,32 @@ impl Comparison {
         self.list.expect(expected.list.as_deref());
         self.answer.lay(random, question.answer);
         self.answer.expect(expected.answer.as_deref());
+        if let Asked::Set(set) = &question.asked {
+            self.demands.lay_bytes(random, &set.demands, set.demands.len());
+            self.shares.lay(random, set.shares);
+            self.shares.expect(expected.shares.as_deref());
+        }
 
-        let (asked, allowance, null) = (question.asked, question.allowance, random.chance(50));
-        let got = call::ask(self.sheet.lent(), asked, allowance, self.list.lent(), self.answer.lent(), null);
+        let null = random.chance(50);
+        let lent = Lent {
+            sheet: self.sheet.lent(),
+            demands: self.demands.lent(),
+            list: self.list.lent(),
+            shares: self.shares.lent(),
+            answer: self.answer.lent(),
+        };
+        let got = call::ask(&question.asked, question.allowance, lent, null);
 
         self.tally.number(call, expected.number);
         let borders = &mut self.tally.borders;
         borders.met(Border::Null, null && (sheet.is_empty() || question.list == 0 || question.answer == 0));
+        if let Asked::Set(set) = &question.asked {
+            borders.met(Border::SetNull, null && set.demands.is_empty());
+            borders.met(Border::SharesNull, null && set.shares == 0);
+        }
         borders.of_sheet(sheet, expected.number);
         borders.of_question(&question, expected.number);
+        borders.of_order(&question, run.as_ref().ok(), expected.number);
         if let Ok(run) = &run {
             borders.of_run(run, &question, &expected);
         }
@@ -156,7 +176,14 @@ impl Comparison {
         if got != number {
             differences.push(format!("returns {got}, expected {number}"));
         }
-        let buffers = [("sheet", &self.sheet), ("list", &self.list), ("answer", &self.answer), ("plan", &self.plan)];
+        let buffers = [
+            ("sheet", &self.sheet),
+            ("demands'", &self.demands),
+            ("list", &self.list),
+            ("shares'", &self.shares),
+            ("answer", &self.answer),
+            ("plan", &self.plan),
+        ];
         differences.extend(buffers.iter().filter_map(|(name, buffer)| buffer.difference(name)));
         if differences.is_empty() {
             Ok(())
@@ -166,16 +193,31 @@ impl Comparison {
     }
 }
 
-/// A case of drive_bounds or drive_speed: what was put to it, the command that puts it to the program, and the first
-/// line that this has to print where the buffers are long enough. The program knows no target: for drive_speed it gets
-/// the speed expected as its demand, and it never answers 16.
+/// A case of drive_bounds, drive_set or drive_speed: what was put to it, the command that puts it to the program, and
+/// the first line that this has to print where the buffers are long enough. The program knows neither a set nor a
+/// target: for drive_set it gets the first demand, for drive_speed the speed expected as its demand, and it never
+/// answers 16, 17 or 18.
 fn shown(sheet: &[u8], question: &Question, expected: &Reply) -> String {
     let Question { asked, allowance, list, answer } = question;
-    let [total, belief, plausibility, pairs, intervals, speed] = expected.answers;
+    let answers = &expected.answers;
+    let (total, pairs, intervals) = (answers.total, answers.pairs, answers.intervals);
+    let Shares { demand: first, belief, plausibility } = answers.first();
     let (words, demand, end) = match asked {
         Asked::Demand(demand) => (format!("demand {demand}"), *demand, String::new()),
+        Asked::Set(set) => {
+            let (length, room) = (set.demands.len(), set.shares);
+            let some = length.min(DEMAND_BYTES * (MOST_DEMANDS + 1));
+            let (bytes, more) = (hex(&set.demands[..some]), if some < length { "..." } else { "" });
+            let pair = |shares: &Shares| format!("{} {}", shares.belief, shares.plausibility);
+            let pairs: Vec<String> = answers.shares.iter().map(pair).collect();
+            (
+                format!("demands {bytes}{more} ({length} bytes), a shares' buffer of {room} bytes"),
+                set.values().first().copied().unwrap_or(0),
+                format!(" at the first demand\n  expected: shares [{}]", pairs.join(", ")),
+            )
+        }
         Asked::Target(target) => {
-            (format!("target {target}"), speed as u32, format!(" speed {speed}, the demand in the command"))
+            (format!("target {target}"), first, format!(" speed {first}, the demand in the command"))
         }
     };
     let input = [&demand.to_be_bytes()[..], &allowance.to_be_bytes(), sheet].concat();

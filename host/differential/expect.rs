@@ -12,30 +12,84 @@ pub const LENGTH_BYTES: usize = 8;
 /// The greatest target: 1,000 thousandths.
 pub const TOP_TARGET: u32 = 1_000;
 
-/// What is asked about a drive: its shares at a demand (drive_bounds), or the speed for a target (drive_speed).
-#[derive(Clone, Copy)]
+/// The bytes of a demand of a set.
+pub const DEMAND_BYTES: usize = 4;
+/// The most demands of a set.
+pub const MOST_DEMANDS: usize = 16;
+/// What the shares' buffer needs for each demand: belief and plausibility.
+pub const SHARES_BYTES: usize = 16;
+
+/// What is asked about a drive: its shares at a demand (drive_bounds) or at each demand of a set (drive_set), or the
+/// speed for a target (drive_speed).
 pub enum Asked {
     Demand(u32),
+    Set(Set),
     Target(u32),
 }
 
 impl Asked {
-    /// The bytes that the answer buffer needs: drive_speed writes the speed behind what drive_bounds writes.
+    /// The bytes that the answer buffer needs: drive_set writes the shares elsewhere, drive_speed the speed behind what
+    /// drive_bounds writes.
     pub fn answer_bytes(&self) -> usize {
         match self {
             Asked::Demand(_) => 40,
+            Asked::Set(_) => 24,
             Asked::Target(_) => 48,
         }
     }
 
-    /// Whether this is a target that number 16 refuses.
-    pub fn wrong(&self) -> bool {
-        matches!(self, Asked::Target(target) if !(1..=TOP_TARGET).contains(target))
+    /// The number that refuses this, whatever the sheet: 16, 17 or 18; 0 where there is none.
+    pub fn number(&self) -> u32 {
+        match self {
+            Asked::Set(set) if set.wrong() => 17,
+            Asked::Set(set) if set.short() => 18,
+            Asked::Target(target) if !right_target(*target) => 16,
+            _ => 0,
+        }
     }
 }
 
-/// What is put to drive_bounds or drive_speed with a sheet: what is asked, the allowance, and the lengths of the two
-/// buffers.
+/// Whether this is a target that number 16 does not refuse.
+pub fn right_target(target: u32) -> bool {
+    (1..=TOP_TARGET).contains(&target)
+}
+
+/// Whether this is a length of the demands that number 17 does not refuse.
+pub fn right_length(length: usize) -> bool {
+    length % DEMAND_BYTES == 0 && (1..=MOST_DEMANDS).contains(&(length / DEMAND_BYTES))
+}
+
+/// What only drive_set gets: the demands, bytes in any number, and a shares' buffer of this length.
+pub struct Set {
+    pub demands: Vec<u8>,
+    pub shares: usize,
+}
+
+impl Set {
+    /// The demands as values; bytes behind the last whole one are left out.
+    pub fn values(&self) -> Vec<u32> {
+        let four = |bytes: &[u8]| u32::from_be_bytes([bytes[0], bytes[1], bytes[2], bytes[3]]);
+        self.demands.chunks_exact(DEMAND_BYTES).map(four).collect()
+    }
+
+    /// What the shares' buffer needs, as far as the demands are whole.
+    pub fn needed(&self) -> usize {
+        SHARES_BYTES * (self.demands.len() / DEMAND_BYTES)
+    }
+
+    /// Whether number 17 refuses the demands.
+    pub fn wrong(&self) -> bool {
+        !right_length(self.demands.len())
+    }
+
+    /// Whether the shares' buffer has fewer bytes than it needs: number 18, unless 17 comes before.
+    pub fn short(&self) -> bool {
+        self.shares < self.needed()
+    }
+}
+
+/// What is put to drive_bounds, drive_set or drive_speed with a sheet: what is asked, the allowance, and the lengths of
+/// the buffers that all three have.
 pub struct Question {
     pub asked: Asked,
     pub allowance: u32,
@@ -43,44 +97,101 @@ pub struct Question {
     pub answer: usize,
 }
 
-pub struct Reply {
-    pub number: u32,
-    /// Total, belief, plausibility, pair count, list length, and the demand or the speed that the shares belong to.
-    pub answers: [u64; 6],
-    pub answer: Option<Vec<u8>>,
-    pub list: Option<Vec<u8>>,
+impl Question {
+    pub fn short_list(&self) -> bool {
+        self.list < LIST_BYTES
+    }
+
+    pub fn short_answer(&self) -> bool {
+        self.answer < self.asked.answer_bytes()
+    }
 }
 
-/// drive_bounds or drive_speed on a sheet with this run, or with this number.
+/// The shares at a demand, or at the speed for a target.
+#[derive(Clone, Copy, Default)]
+pub struct Shares {
+    pub demand: u32,
+    pub belief: u64,
+    pub plausibility: u64,
+}
+
+/// What an accepted call answers; after a refusal zeros and no shares.
+#[derive(Default)]
+pub struct Answers {
+    pub total: u64,
+    pub pairs: u64,
+    pub intervals: u64,
+    /// In the order asked; a demand or a target has one.
+    pub shares: Vec<Shares>,
+}
+
+impl Answers {
+    fn of(run: &Run, asked: &Asked) -> Answers {
+        let demands = match asked {
+            Asked::Demand(demand) => vec![*demand],
+            Asked::Set(set) => set.values(),
+            Asked::Target(target) => vec![run.speed(*target)],
+        };
+        let at = |demand: u32| Shares { demand, belief: run.belief(demand), plausibility: run.plausibility(demand) };
+        let (total, pairs, intervals) = (run.total, run.pairs(), run.list.len() as u64);
+        Answers { total, pairs, intervals, shares: demands.into_iter().map(at).collect() }
+    }
+
+    /// The first shares; zeros where there are none.
+    pub fn first(&self) -> Shares {
+        self.shares.first().copied().unwrap_or_default()
+    }
+
+    /// What the answer buffer gets.
+    fn answer(&self, asked: &Asked) -> Vec<u8> {
+        let Answers { total, pairs, intervals, .. } = *self;
+        let Shares { demand, belief, plausibility } = self.first();
+        match asked {
+            Asked::Demand(_) => bytes(&[total, belief, plausibility, pairs, intervals]),
+            Asked::Set(_) => bytes(&[total, pairs, intervals]),
+            Asked::Target(_) => bytes(&[total, belief, plausibility, pairs, intervals, demand.into()]),
+        }
+    }
+
+    /// What the shares' buffer gets.
+    fn shares(&self) -> Vec<u8> {
+        self.shares.iter().flat_map(|shares| bytes(&[shares.belief, shares.plausibility])).collect()
+    }
+}
+
+fn bytes(numbers: &[u64]) -> Vec<u8> {
+    numbers.iter().flat_map(|number| number.to_be_bytes()).collect()
+}
+
+pub struct Reply {
+    pub number: u32,
+    pub answers: Answers,
+    pub answer: Option<Vec<u8>>,
+    pub list: Option<Vec<u8>>,
+    /// Of drive_set; the other two are not lent the shares' buffer.
+    pub shares: Option<Vec<u8>>,
+}
+
+/// drive_bounds, drive_set or drive_speed on a sheet with this run, or with this number.
 pub fn reply(run: &Result<Run, u32>, question: &Question) -> Reply {
-    let mut expected = Reply { number: 0, answers: [0; 6], answer: None, list: None };
-    let needed = question.asked.answer_bytes();
+    let asked = &question.asked;
+    let mut expected = Reply { number: 0, answers: Answers::default(), answer: None, list: None, shares: None };
     match run {
         Err(number) => expected.number = *number,
-        Ok(_) if question.list < LIST_BYTES || question.answer < needed => expected.number = 12,
-        Ok(_) if question.asked.wrong() => expected.number = 16,
+        Ok(_) if question.short_list() || question.short_answer() => expected.number = 12,
+        Ok(_) if asked.number() != 0 => expected.number = asked.number(),
         Ok(run) => {
             expected.number = run.number(question.allowance);
             expected.list = Some(vec![0; LIST_BYTES]);
             if expected.number == 0 {
-                expected.answers = answers(run, question.asked);
+                expected.answers = Answers::of(run, asked);
                 expected.list = Some(records(run));
+                expected.shares = matches!(asked, Asked::Set(_)).then(|| expected.answers.shares());
             }
         }
     }
-    if question.answer >= needed {
-        expected.answer = Some(expected.answers.map(u64::to_be_bytes).concat()[..needed].to_vec());
-    }
+    expected.answer = (!question.short_answer()).then(|| expected.answers.answer(asked));
     expected
-}
-
-fn answers(run: &Run, asked: Asked) -> [u64; 6] {
-    let demand = match asked {
-        Asked::Demand(demand) => demand,
-        Asked::Target(target) => run.speed(target),
-    };
-    let (belief, plausibility) = (run.belief(demand), run.plausibility(demand));
-    [run.total, belief, plausibility, run.pairs(), run.list.len() as u64, demand.into()]
 }
 
 /// The drive's list in records of 12 bytes, then zero.

@@ -2,18 +2,20 @@
 
 use crate::borders::Borders;
 
-pub const CALLS: [&str; 4] = ["drive_bounds", "drive_speed", "drive_write_sheet", "drive_read_sheet"];
+pub const CALLS: [&str; 5] = ["drive_bounds", "drive_set", "drive_speed", "drive_write_sheet", "drive_read_sheet"];
 pub const BOUNDS: usize = 0;
-pub const SPEED: usize = 1;
-pub const WRITE: usize = 2;
-pub const READ: usize = 3;
+pub const SET: usize = 1;
+pub const SPEED: usize = 2;
+pub const WRITE: usize = 3;
+pub const READ: usize = 4;
 
 /// The last number.
-pub const LAST: usize = 16;
+pub const LAST: usize = 18;
 
 /// The numbers that each call can return.
 const POSSIBLE: [&[usize]; CALLS.len()] = [
     &[0, 1, 2, 3, 4, 5, 6, 7, 8, 9, 10, 11, 12, 13, 14],
+    &[0, 1, 2, 3, 4, 5, 6, 7, 8, 9, 10, 11, 12, 13, 14, 17, 18],
     &[0, 1, 2, 3, 4, 5, 6, 7, 8, 9, 10, 11, 12, 13, 14, 16],
     &[0, 3, 4, 6, 7, 8, 9, 10, 11, 12, 15],
     &[0, 1, 2, 3, 4, 5, 6, 7, 8, 9, 10, 11, 12],

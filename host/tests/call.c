@@ -1,4 +1,4 @@
-/* The four calls on every number, with buffers too short, exact and too long, and on the bench table. C and C++. */
+/* The five calls on every number, with buffers too short, exact and too long, and on the bench table. C and C++. */
 #include "common.h"
 
 /* Six modules with eight intervals and T 1,000 each, at the greatest speeds; all shared. */
@@ -122,13 +122,12 @@ static int list_is(const uint8_t *list, const struct drive_interval *want, size_
     return holds_zeros(list, count * DRIVE_RECORD_BYTES, DRIVE_LIST_BYTES);
 }
 
-static int answer_is(const uint8_t *answer, const uint64_t *want) {
-    struct drive_answer a = drive_read_answer(answer);
+static int values_are(struct drive_answer a, const uint64_t *want) {
     return a.total == want[0] && a.belief == want[1] && a.plausibility == want[2] && a.pairs == want[3] && a.intervals == want[4];
 }
 
-/* A call and what it is asked, a demand or a target: the number that refuses this, or 0; the bytes of the answer; the answers to
- * case P2. */
+/* A call and what it is asked, a demand, a target or so many bytes of demands: the number that refuses this, or 0; the bytes of the
+ * answer; the answers to case P2. */
 struct ask {
     bounds_fn *call;
     uint32_t asked, refused;
@@ -153,11 +152,12 @@ static const struct ask ask_speed[TARGETS] = {
 };
 
 static int answers_are(const uint8_t *answer, const struct ask *a) {
-    if (a->bytes > DRIVE_ANSWER_BYTES && drive_read(answer + DRIVE_ANSWER_BYTES, 8) != a->answers[5]) return 0;
-    return answer_is(answer, a->answers);
+    for (size_t i = 0; i < a->bytes / 8; i++)
+        if (drive_read(answer + 8 * i, 8) != a->answers[i]) return 0;
+    return 1;
 }
 
-/* One call of drive_bounds or drive_speed with these lengths. */
+/* One call of drive_bounds, drive_set or drive_speed with these lengths. */
 static void try_ask(const struct ask *a, const struct row *r, size_t list_length, size_t answer_length, int at_end,
                     struct fence sheet_pages, struct fence list_pages, struct fence answer_pages) {
     struct lent sheet = lend_bytes(sheet_pages, r->sheet.bytes, r->sheet.length, r->sheet.length, at_end);
@@ -205,7 +205,7 @@ static void try_read(const struct row *r, size_t plan_length, int at_end, struct
     EXPECT(holds_marks(plan.bytes, from, plan.filled), "reader: number %u touched the plan buffer", want);
 }
 
-/* Every row with buffers of every length; 40 bytes are enough for drive_bounds and too few for drive_speed. */
+/* Every row with buffers of every length; 40 bytes are enough for drive_bounds and drive_set and too few for drive_speed. */
 static void try_rows(const struct ask *a, const struct rows *rows, struct fence sheet, struct fence list, struct fence answer) {
     enum { ANSWER_LENGTHS = 7 };
     const size_t answer_lengths[ANSWER_LENGTHS] = {0, 1, a->bytes - 1, a->bytes, a->bytes + 1, DRIVE_ANSWER_BYTES, 100};
@@ -216,6 +216,109 @@ static void try_rows(const struct ask *a, const struct rows *rows, struct fence 
                     try_ask(a, &rows->row[r], list_lengths[i], answer_lengths[j], at_end, sheet, list, answer);
 }
 
+/* Demands for case P2, in no order: some equal, the least, the greatest, some that would be 3 if they were cut to 8, 16 or 24 bits.
+ * The last is one too many. */
+static const uint32_t p2_demands[DRIVE_DEMANDS_MAX + 1] = {
+    3, 8, 0, 7, UINT32_MAX, 4, 1, 256 + 3, 5, 65536 + 3, 2, 3, 16777216 + 3, 6, 0, 1, 2,
+};
+
+/* Belief and plausibility at a demand in case P2. */
+static int shares_are(const uint8_t *shares, uint32_t demand) {
+    uint64_t belief = 0, plausibility = 0;
+    for (size_t i = 0; i < 4; i++) {
+        if (p2_list[i].low >= demand) belief += p2_list[i].weight;
+        if (p2_list[i].high >= demand) plausibility += p2_list[i].weight;
+    }
+    return drive_read(shares, 8) == belief && drive_read(shares + 8, 8) == plausibility;
+}
+
+/* The buffers that only drive_set has; the shares' is so long, and both stand behind a fence or before one. */
+static struct {
+    struct fence demands, shares;
+    size_t shares_length;
+    int at_end;
+} set_pages;
+
+/* drive_set in the place of a call that is asked one number, which is the length of its demands. */
+static uint32_t set_call(const uint8_t *sheet, size_t sheet_length, uint32_t demands_length, uint32_t allowance, uint8_t *list,
+                         size_t list_length, uint8_t *answer, size_t answer_length) {
+    uint8_t bytes[sizeof p2_demands];
+    size_t count = demands_length / DRIVE_DEMAND_BYTES, length = set_pages.shares_length, from = 0;
+    for (size_t i = 0; i <= DRIVE_DEMANDS_MAX; i++) drive_put_demand(bytes, i, p2_demands[i]);
+    struct lent demands = lend_bytes(set_pages.demands, bytes, sizeof bytes, demands_length, set_pages.at_end);
+    struct lent shares = lend(set_pages.shares, length, set_pages.at_end);
+
+    only_read(set_pages.demands, 1);
+    uint32_t got = drive_set(sheet, sheet_length, pointer(demands), demands_length, allowance, list, list_length, pointer(shares),
+                             length, answer, answer_length);
+    only_read(set_pages.demands, 0);
+
+    for (size_t i = 0; got == 0 && i < count && from + DRIVE_SHARES_BYTES <= length; i++, from += DRIVE_SHARES_BYTES)
+        EXPECT(shares_are(shares.bytes + from, p2_demands[i]), "pair %zu of %zu demands", i, count);
+    EXPECT(holds_marks(shares.bytes, from, shares.filled), "number %u touched the shares' buffer, %zu, with demands %u", got, length,
+           demands_length);
+    return got;
+}
+
+/* Lengths of demands, the number that refuses them, or 0, and what the shares need. 256 + 4 and 1024 + 4 would be good if the length
+ * or the count were cut to 8 bits. */
+static const struct {
+    uint32_t length, refused;
+    size_t needed;
+} demands_lengths[] = {
+    {0, 17, 16},   {1, 17, 16},  {2, 17, 16},   {3, 17, 16},   {4, 0, 16},    {5, 17, 16},   {8, 0, 32},        {60, 0, 240},
+    {63, 17, 256}, {64, 0, 256}, {65, 17, 256}, {66, 17, 256}, {67, 17, 256}, {68, 17, 272}, {256 + 4, 17, 16}, {1024 + 4, 17, 16},
+};
+
+/* Demands and shares of every length, on one sheet for each of 0, 5, 13 and 14; on every sheet where the shares fit exactly. */
+static void try_sets(const struct rows *rows, struct fence sheet, struct fence list, struct fence answer) {
+    static struct rows few;
+    for (unsigned r = 0; r < rows->count; r++) {
+        uint32_t number = rows->row[r].number, last = few.count > 0 ? few.row[few.count - 1].number : 1;
+        if ((number == 0 || number == 5 || number >= 13) && number != last) few.row[few.count++] = rows->row[r];
+    }
+    set_pages.demands = make_fence(ROOM);
+    set_pages.shares = make_fence(ROOM);
+    for (size_t i = 0; i < sizeof demands_lengths / sizeof *demands_lengths; i++) {
+        const size_t needed = demands_lengths[i].needed;
+        const size_t shares_lengths[LENGTHS] = {0, 1, needed - 1, needed, needed + 1, needed + 100};
+        for (unsigned j = 0; j < 2 * LENGTHS; j++) {
+            uint32_t refused = demands_lengths[i].refused;
+            set_pages.shares_length = shares_lengths[j / 2];
+            set_pages.at_end = j % 2 != 0;
+            if (refused == 0 && set_pages.shares_length < needed) refused = 18;
+            const struct ask a = {set_call, demands_lengths[i].length, refused, DRIVE_SET_ANSWER_BYTES, {12, 4, 4, 0, 0, 0}};
+            try_rows(&a, set_pages.shares_length == needed ? rows : &few, sheet, list, answer);
+        }
+    }
+}
+
+/* Lengths of more than 16 and of more than 32 bits, which would have another number if they were cut. All bytes are zero, and only
+ * the first page can be written. */
+static void test_far_lengths(void) {
+    static uint8_t list[DRIVE_LIST_BYTES], answer[DRIVE_SET_ANSWER_BYTES];
+    const size_t greatest = ((size_t)1 << 32) + 64, lengths[] = {65536 + 4, 4 * 65536 + 4, greatest - 60, greatest};
+    const struct plan p = two(A, B, DRIVE_ED1_SHARED);
+    const struct sheet s = make_sheet(&p);
+    uint8_t demand[DRIVE_DEMAND_BYTES], shares[DRIVE_SHARES_BYTES];
+    uint8_t *bytes = (uint8_t *)mmap(NULL, greatest, PROT_READ, MAP_PRIVATE | MAP_ANONYMOUS, -1, 0);
+    if (bytes == MAP_FAILED || mprotect(bytes, ROOM, PROT_READ | PROT_WRITE) != 0) {
+        perror("4 GiB of zeros");
+        exit(2);
+    }
+    for (unsigned i = 0; i < 4; i++) {
+        uint32_t got = drive_set(s.bytes, s.length, bytes, lengths[i], 4, list, sizeof list, shares, sizeof shares, answer,
+                                 sizeof answer);
+        EXPECT(got == 17, "number %u with %zu bytes of demands", got, lengths[i]);
+    }
+    drive_put_demand(demand, 0, 3);
+    uint32_t got = drive_set(s.bytes, s.length, demand, sizeof demand, 4, list, sizeof list, bytes, (size_t)1 << 32, answer,
+                             sizeof answer);
+    EXPECT(got == 0 && shares_are(bytes, 3), "number %u with 4 GiB for the shares", got);
+    munmap(bytes, greatest);
+    finish("drive_set: lengths of more than 16 and of more than 32 bits");
+}
+
 static void test_sheets(void) {
     static struct rows rows;
     struct fence sheet = make_fence(SHEET_ROOM), list = make_fence(LIST_ROOM), answer = make_fence(ROOM), plan = make_fence(ROOM);
@@ -224,6 +327,8 @@ static void test_sheets(void) {
     finish("drive_bounds: numbers 0 to 14, buffers of every length, nothing else touched");
     for (unsigned i = 0; i < TARGETS; i++) try_rows(&ask_speed[i], &rows, sheet, list, answer);
     finish("drive_speed: numbers 0 to 14 and 16, buffers of every length, nothing else touched");
+    try_sets(&rows, sheet, list, answer);
+    finish("drive_set: numbers 0 to 14, 17 and 18, buffers of every length, nothing else touched");
     for (unsigned r = 0; r < rows.count; r++)
         for (unsigned i = 0; i < LENGTHS; i++)
             for (int at_end = 0; at_end < 2; at_end++) try_read(&rows.row[r], plan_lengths[i], at_end, sheet, plan);
@@ -376,7 +481,7 @@ static void test_round_trips(void) {
     finish("plans written and read back, sheets read and written back");
 }
 
-/* One row of the bench table. */
+/* One row of the bench table, by drive_bounds and by drive_set with a demand before it that nothing reaches. */
 static void bench_row(const char *name, struct plan p, uint32_t demand, uint32_t allowance, uint32_t number, const uint64_t *want,
                       const struct drive_interval *intervals) {
     static uint8_t list[DRIVE_LIST_BYTES], answer[DRIVE_ANSWER_BYTES];
@@ -384,8 +489,24 @@ static void bench_row(const char *name, struct plan p, uint32_t demand, uint32_t
     struct sheet s = make_sheet(&p);
     uint32_t got = drive_bounds(s.bytes, s.length, demand, allowance, list, sizeof list, answer, sizeof answer);
     EXPECT(got == number, "%s: number %u, not %u", name, got, number);
-    EXPECT(answer_is(answer, number == 0 ? want : zeros), "%s: the answer at demand %u", name, demand);
+    EXPECT(values_are(drive_read_answer(answer), number == 0 ? want : zeros), "%s: the answer at demand %u", name, demand);
     EXPECT(number != 0 || intervals == NULL || list_is(list, intervals, (size_t)want[4]), "%s: the list", name);
+
+    uint8_t demands[2 * DRIVE_DEMAND_BYTES], shares[2 * DRIVE_SHARES_BYTES], others[DRIVE_SET_ANSWER_BYTES];
+    fill_marks(shares, sizeof shares);
+    drive_put_demand(demands, 0, UINT32_MAX);
+    drive_put_demand(demands, 1, demand);
+    got = drive_set(s.bytes, s.length, demands, sizeof demands, allowance, list, sizeof list, shares, sizeof shares, others,
+                    sizeof others);
+    EXPECT(got == number, "%s: drive_set: number %u, not %u", name, got, number);
+    if (number == 0) {
+        EXPECT(holds_zeros(shares, 0, DRIVE_SHARES_BYTES), "%s: drive_set: the shares at the greatest demand", name);
+        EXPECT(values_are(drive_read_shares(others, shares, 1), want), "%s: drive_set: the answer at demand %u", name, demand);
+        EXPECT(intervals == NULL || list_is(list, intervals, (size_t)want[4]), "%s: drive_set: the list", name);
+    } else {
+        EXPECT(holds_zeros(others, 0, sizeof others), "%s: drive_set: the answer of a refusal", name);
+        EXPECT(holds_marks(shares, 0, sizeof shares), "%s: drive_set: the shares of a refusal", name);
+    }
 }
 
 static void test_bench_table(void) {
@@ -487,6 +608,75 @@ static void test_speeds(void) {
     finish("drive_speed: every target against drive_bounds");
 }
 
+/* drive_set against drive_bounds at each demand: the same answers, the same list. Of two demands the greater never has more. */
+static void set_at(const struct sheet *s, const uint32_t *demands, size_t count) {
+    static uint8_t list[DRIVE_LIST_BYTES], bounds_list[DRIVE_LIST_BYTES], bounds_answer[DRIVE_ANSWER_BYTES];
+    uint8_t bytes[DRIVE_DEMANDS_MAX * DRIVE_DEMAND_BYTES];
+    uint8_t shares[DRIVE_DEMANDS_MAX * DRIVE_SHARES_BYTES + 16], answer[DRIVE_SET_ANSWER_BYTES + 16];
+    struct drive_answer a[DRIVE_DEMANDS_MAX];
+    for (size_t i = 0; i < count; i++) drive_put_demand(bytes, i, demands[i]);
+    memset(list, 0xEE, sizeof list);
+    fill_marks(shares, sizeof shares);
+    fill_marks(answer, sizeof answer);
+    uint32_t got = drive_set(s->bytes, s->length, bytes, count * DRIVE_DEMAND_BYTES, DRIVE_PAIRS_MAX, list, sizeof list, shares,
+                             sizeof shares, answer, sizeof answer);
+    EXPECT(got == 0, "%zu demands: number %u", count, got);
+    EXPECT(holds_marks(shares, count * DRIVE_SHARES_BYTES, sizeof shares), "%zu demands: bytes behind the last pair", count);
+    EXPECT(holds_marks(answer, DRIVE_SET_ANSWER_BYTES, sizeof answer), "%zu demands: bytes behind the answer", count);
+
+    for (size_t i = 0; i < count; i++) {
+        got = drive_bounds(s->bytes, s->length, demands[i], DRIVE_PAIRS_MAX, bounds_list, sizeof bounds_list, bounds_answer,
+                           sizeof bounds_answer);
+        struct drive_answer want = drive_read_answer(bounds_answer);
+        a[i] = drive_read_shares(answer, shares, i);
+        EXPECT(got == 0 && memcmp(&a[i], &want, sizeof want) == 0, "%zu demands: other answers at the demand %u", count, demands[i]);
+        EXPECT(memcmp(list, bounds_list, sizeof list) == 0, "%zu demands: another list", count);
+        for (size_t j = 0; j < i; j++) {
+            struct drive_answer less = demands[i] < demands[j] ? a[i] : a[j], more = demands[i] < demands[j] ? a[j] : a[i];
+            EXPECT(more.belief <= less.belief && more.plausibility <= less.plausibility, "demands %u and %u: the greater has more",
+                   demands[j], demands[i]);
+        }
+    }
+}
+
+/* A demand at which a share changes: the low or the high of an interval, or one above; some others, too. */
+static uint32_t random_demand(const uint8_t *list, unsigned intervals) {
+    struct drive_interval r = drive_read_interval(list, random_below(intervals));
+    if (random_below(12) == 0) return random_below(2) == 0 ? 0 : UINT32_MAX;
+    return (random_below(2) == 0 ? r.low : r.high) + random_below(2);
+}
+
+static void test_sets(void) {
+    static uint8_t list[DRIVE_LIST_BYTES], answer[DRIVE_ANSWER_BYTES];
+    const struct plan plans[] = {
+        two(W0, W1, DRIVE_ED1_SERIES), two(A, B, DRIVE_ED1_SHARED), three(4), six(50, 1, DRIVE_ED1_SPARE, DRIVE_ED1_SERIES),
+        longest(), widest(),
+    };
+    for (size_t i = 0; i < sizeof plans / sizeof *plans; i++) {
+        struct sheet s = make_sheet(&plans[i]);
+        uint32_t greatest, up[DRIVE_DEMANDS_MAX], down[DRIVE_DEMANDS_MAX], equal[DRIVE_DEMANDS_MAX], any[DRIVE_DEMANDS_MAX];
+        uint32_t got = drive_bounds(s.bytes, s.length, 0, DRIVE_PAIRS_MAX, list, sizeof list, answer, sizeof answer);
+        unsigned intervals = (unsigned)drive_read_answer(answer).intervals;
+        EXPECT(got == 0 && intervals > 0, "sheet %zu: number %u", i, got);
+        greatest = greatest_high(list, intervals);
+        for (size_t count = 1; count <= DRIVE_DEMANDS_MAX; count++) {
+            for (size_t j = 0; j < count; j++) { /* from one above the greatest speed down to 0, or the other way round */
+                down[j] = count == 1 ? greatest : (greatest + 1) * (uint32_t)(count - 1 - j) / (uint32_t)(count - 1);
+                up[count - 1 - j] = down[j];
+                equal[j] = greatest / 2;
+            }
+            set_at(&s, up, count);
+            set_at(&s, down, count);
+            set_at(&s, equal, count);
+        }
+        for (unsigned round = 0; round < 20; round++) {
+            for (size_t j = 0; j < DRIVE_DEMANDS_MAX; j++) any[j] = random_demand(list, intervals);
+            set_at(&s, any, DRIVE_DEMANDS_MAX);
+        }
+    }
+    finish("drive_set: 1 to 16 demands against drive_bounds, ascending, descending, equal, in no order");
+}
+
 /* The most that a sheet can ask for: the longest sheet, the largest total, the largest demand, the most pairs. */
 static void test_ends(void) {
     static uint8_t list[DRIVE_LIST_BYTES], answer[DRIVE_ANSWER_BYTES];
@@ -517,20 +707,25 @@ static void test_ends(void) {
 }
 
 static void test_messages(void) {
-    EXPECT(DRIVE_NUMBER_COUNT == 17 && DRIVE_E_TARGET == 16, "the numbers are 0 to 16");
+    EXPECT(DRIVE_NUMBER_COUNT == 19 && DRIVE_E_SHARES_BUFFER == 18, "the numbers are 0 to 18");
     EXPECT(strcmp(drive_message(DRIVE_ACCEPTED), "accepted") == 0, "the words for 0");
     EXPECT(strcmp(drive_message(DRIVE_E_EDITION), "the sheet's edition is not 1") == 0, "the words for 2");
     EXPECT(strcmp(drive_message(DRIVE_E_TARGET), "the target is not 1 to 1,000 thousandths") == 0, "the words for 16");
-    EXPECT(strcmp(drive_message(17), "no such number") == 0 && strcmp(drive_message(UINT32_MAX), "no such number") == 0, "others");
+    EXPECT(strcmp(drive_message(17), "the number of demands is not 1 to 16, or their bytes are not 4 for each") == 0,
+           "the words for 17");
+    EXPECT(strcmp(drive_message(18), "the shares' buffer has fewer than 16 bytes for each demand") == 0, "the words for 18");
+    EXPECT(strcmp(drive_message(19), "no such number") == 0 && strcmp(drive_message(UINT32_MAX), "no such number") == 0, "others");
     finish("the words for each number");
 }
 
 int main(void) {
     test_sheets();
+    test_far_lengths();
     test_writer();
     test_round_trips();
     test_bench_table();
     test_speeds();
+    test_sets();
     test_ends();
     test_messages();
     return failures != 0;

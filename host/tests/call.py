@@ -1,5 +1,5 @@
-"""The calls from Python: drive_bounds and drive_speed against the sum over all choices of one interval per component, and every sheet
-read and written.
+"""The calls from Python: drive_bounds, drive_set and drive_speed against the sum over all choices of one interval per component, and
+every sheet read and written.
 
 call.py LIBRARY: the archive as a shared library.
 """
@@ -10,19 +10,23 @@ import sys
 from collections import Counter
 from math import prod
 
-LIST_BYTES, ANSWER_BYTES, SPEED_BYTES, PAIRS_MAX = 16384, 40, 48, 66688
+LIST_BYTES, ANSWER_BYTES, SET_BYTES, SPEED_BYTES, PAIRS_MAX = 16384, 40, 24, 48, 66688
 PLAN_BYTES, LENGTH_BYTES, SHEET_BYTES = 336, 8, 224
 SERIES, SHARED, SPARE = 8, 9, 10
 JOIN = {SERIES: min, SHARED: lambda x, y: x + y, SPARE: max}
 
 library = ctypes.CDLL(sys.argv[1])
-drive_bounds, drive_speed = library.drive_bounds, library.drive_speed
+drive_bounds, drive_set, drive_speed = library.drive_bounds, library.drive_set, library.drive_speed
 write_sheet, read_sheet_call = library.drive_write_sheet, library.drive_read_sheet
-for function in drive_bounds, drive_speed, write_sheet, read_sheet_call:
+for function in drive_bounds, drive_set, drive_speed, write_sheet, read_sheet_call:
     function.restype = ctypes.c_uint32
 drive_bounds.argtypes = drive_speed.argtypes = [
     ctypes.c_char_p, ctypes.c_size_t, ctypes.c_uint32, ctypes.c_uint32,
     ctypes.c_char_p, ctypes.c_size_t, ctypes.c_char_p, ctypes.c_size_t,
+]
+drive_set.argtypes = [
+    ctypes.c_char_p, ctypes.c_size_t, ctypes.c_char_p, ctypes.c_size_t, ctypes.c_uint32,
+    *3 * [ctypes.c_char_p, ctypes.c_size_t],
 ]
 write_sheet.argtypes = 3 * [ctypes.c_char_p, ctypes.c_size_t]
 read_sheet_call.argtypes = 2 * [ctypes.c_char_p, ctypes.c_size_t]
@@ -39,6 +43,15 @@ def call(function, sheet, asked, allowance, list_length, answer_length):
     store, answer = (b.raw for b in buffers)
     assert store[list_length:] == answer[answer_length:] == b"\xee" * 16, "bytes behind a buffer"
     return number, store[:list_length], answer[:answer_length]
+
+
+def call_set(sheet, demands, allowance, list_length, shares_length, answer_length):
+    """The same for drive_set, with the shares after the list. The demands are bytes."""
+    lengths = list_length, shares_length, answer_length
+    buffers = [lent(length) for length in lengths]
+    number = drive_set(sheet, len(sheet), demands, len(demands), allowance, *itertools.chain(*zip(buffers, lengths)))
+    assert all(b.raw[length:] == b"\xee" * 16 for b, length in zip(buffers, lengths)), "bytes behind a buffer"
+    return number, *(b.raw[:length] for b, length in zip(buffers, lengths))
 
 
 def write(plan, sheet_length=SHEET_BYTES, answer_length=LENGTH_BYTES):
@@ -194,12 +207,42 @@ def speed_of(outcomes, target):
     return 0, bounds_of(outcomes, speed)[1] + [speed]
 
 
+def set_of(outcomes, demands, room):
+    """The number, the three answers and the shares at demands that are whole numbers or, the last, bytes; `room` for the shares."""
+    number, total, pairs, records = outcomes
+    if number in (0, 13, 14):
+        number = 17 if not 1 <= len(demands) <= 16 or isinstance(demands[-1], bytes) else 18 if room < 16 * len(demands) else number
+    if number != 0:
+        return number, [0] * 3, []
+    return 0, [total, pairs, len(records)], [share for demand in demands for share in bounds_of(outcomes, demand)[1][1:3]]
+
+
+def list_bytes(number, records):
+    """The list buffer after a call."""
+    parts = [low.to_bytes(2, "big") + high.to_bytes(2, "big") + weight.to_bytes(8, "big") for low, high, weight in records]
+    return b"".join(parts).ljust(LIST_BYTES, b"\0") if number in (0, 13, 14) else b"\xee" * LIST_BYTES
+
+
+def answer_bytes(values):
+    return b"".join(value.to_bytes(8, "big") for value in values)
+
+
+def compare_set(sheet, demands, allowance, outcomes, room):
+    """One call of drive_set with a list and an answer that are long enough."""
+    number, answers, shares = set_of(outcomes, demands, room)
+    wanted = list_bytes(number, outcomes[3]), answer_bytes(shares).ljust(room, b"\xee"), answer_bytes(answers)
+    asked = b"".join(d if isinstance(d, bytes) else d.to_bytes(4, "big") for d in demands)
+    got = call_set(sheet, asked, allowance, LIST_BYTES, room, SET_BYTES)
+    name = f"drive_set asked {demands}, allowance {allowance}, room {room}"
+    assert got[0] == number, f"{name}: number {got[0]}, not {number}, on {sheet.hex()}"
+    assert got[1:] == wanted, f"{name}: other bytes on {sheet.hex()}"
+    return number
+
+
 def compare(function, sheet, asked, allowance, outcomes, wanted):
     """One call with buffers that are long enough; `wanted` is its number and its answers."""
     number, answers = wanted
-    records = [low.to_bytes(2, "big") + high.to_bytes(2, "big") + weight.to_bytes(8, "big") for low, high, weight in outcomes[3]]
-    store = b"".join(records).ljust(LIST_BYTES, b"\0") if number in (0, 13, 14) else b"\xee" * LIST_BYTES
-    answer = b"".join(value.to_bytes(8, "big") for value in answers)
+    store, answer = list_bytes(number, outcomes[3]), answer_bytes(answers)
     got = call(function, sheet, asked, allowance, LIST_BYTES, len(answer))
     name = f"{function.__name__} asked {asked}, allowance {allowance}"
     assert got[0] == number, f"{name}: number {got[0]}, not {number}, on {sheet.hex()}"
@@ -253,6 +296,14 @@ def random_target(r, outcomes):
     return r.choice([r.randint(1, 1000), r.randint(1, 1000), r.choice([0, 1001, 2**16 + 500, 2**32 - 1])])
 
 
+def random_demands(r, outcomes):
+    """At the ends of intervals, one above, or any; 0 to 17 of them, some equal, or with some bytes more."""
+    ends = [end for low, high, _ in outcomes[3] for end in (low, high)] or [0]
+    count = r.choice([1, 2, 3, r.randint(1, 16), r.randint(0, 17)])
+    demands = [r.choice([r.choice(ends) + r.randint(0, 1), r.randint(0, 5000), r.choice([0, 2**16, 2**32 - 1])]) for _ in range(count)]
+    return demands + ([bytes(r.randint(1, 3))] if r.random() < 0.05 else [])
+
+
 def main():
     w = make_sheet([(100, [(0, 4, 20), (3, 8, 67), (7, 10, 13)]), (100, [(0, 6, 67), (8, 10, 33)])], [0, 1, SERIES])
     outcomes = outcomes_of(w, 6)
@@ -261,6 +312,15 @@ def main():
     compare(drive_bounds, w, 7, 6, outcomes, bounds_of(outcomes, 7))
     for target in 0, 1, 42, 43, 264, 265, 1000, 1001, 2**32 - 1:
         compare(drive_speed, w, target, 6, outcomes, speed_of(outcomes, target))
+    for demands in [7], [0, 2**32 - 1], [8, 7, 7, 3], [*range(16)], [*range(15, -1, -1)], [], [1] * 17, [b"\0\0\0"], [1, b"\0"]:
+        for room in 0, 15, 16, 255, 256, 272, 300:
+            compare_set(w, demands, 6, outcomes, room)
+    for demands, list_length, answer_length in (bytes(64), 0, 0), (b"", LIST_BYTES - 1, SET_BYTES), (b"", LIST_BYTES, SET_BYTES - 1):
+        answer = bytes(answer_length) if answer_length == SET_BYTES else b"\xee" * answer_length
+        wanted = 12, b"\xee" * list_length, b"\xee" * 256, answer
+        assert call_set(w, demands, 6, list_length, 256, answer_length) == wanted, "short buffers"
+    assert drive_set(None, 0, None, 0, 0, None, 0, None, 0, None, 0) == 1, "null"
+    assert drive_set(w, len(w), None, 0, 0, None, 0, None, 0, None, 0) == 12, "null"
     for function, asked, needed in (drive_bounds, 7, ANSWER_BYTES), (drive_speed, 42, SPEED_BYTES), (drive_speed, 0, SPEED_BYTES):
         for list_length, answer_length in [(0, 0), (LIST_BYTES - 1, needed), (LIST_BYTES, needed - 1), (0, needed)]:
             answer = bytes(needed) if answer_length == needed else b"\xee" * answer_length
@@ -282,7 +342,11 @@ def main():
         met["bounds", compare(drive_bounds, sheet, demand, allowance, outcomes, bounds_of(outcomes, demand))] += 1
         target = random_target(r, outcomes)
         met["speed", compare(drive_speed, sheet, target, allowance, outcomes, speed_of(outcomes, target))] += 1
-    missing = {*itertools.product(["bounds", "speed"], {*range(15)} - {12}), ("speed", 16)} - set(met)
+        demands = random_demands(r, outcomes)
+        room = max(0, 16 * len(demands) + r.choice([0, 0, 1, 16, -1]))
+        met["set", compare_set(sheet, demands, allowance, outcomes, room)] += 1
+    wanted = {*itertools.product(["bounds", "set", "speed"], {*range(15)} - {12}), ("speed", 16), ("set", 17), ("set", 18)}
+    missing = wanted - set(met)
     assert not missing, f"numbers never met: {missing}"
     print(f"ok Python: {sheets} random sheets against the sum over all choices, read and written back")
 

@@ -5,6 +5,10 @@ extern "C" {
         sheet: *const u8, sheet_length: usize, demand: u32, allowance: u32,
         list: *mut u8, list_length: usize, answer: *mut u8, answer_length: usize,
     ) -> u32;
+    fn drive_set(
+        sheet: *const u8, sheet_length: usize, demands: *const u8, demands_length: usize, allowance: u32,
+        list: *mut u8, list_length: usize, shares: *mut u8, shares_length: usize, answer: *mut u8, answer_length: usize,
+    ) -> u32;
     fn drive_speed(
         sheet: *const u8, sheet_length: usize, target: u32, allowance: u32,
         list: *mut u8, list_length: usize, answer: *mut u8, answer_length: usize,
@@ -17,6 +21,7 @@ extern "C" {
 
 const LIST_BYTES: usize = 16384;
 const ANSWER_BYTES: usize = 40;
+const SET_ANSWER_BYTES: usize = 24;
 const SPEED_ANSWER_BYTES: usize = 48;
 const PLAN_BYTES: usize = 336;
 const LENGTH_BYTES: usize = 8;
@@ -45,6 +50,19 @@ fn speed(sheet: &[u8], target: u32, allowance: u32, list: &mut [u8], answer: &mu
         drive_speed(
             sheet.as_ptr(), sheet.len(), target, allowance,
             list.as_mut_ptr(), list.len(), answer.as_mut_ptr(), answer.len(),
+        )
+    }
+}
+
+/// The demands as numbers; `cut` bytes are left out at their end.
+fn set(sheet: &[u8], demands: &[u32], cut: usize, allowance: u32, list: &mut [u8], shares: &mut [u8], answer: &mut [u8]) -> u32 {
+    let bytes: Vec<u8> = demands.iter().flat_map(|demand| demand.to_be_bytes()).collect();
+    let demands = &bytes[..bytes.len() - cut];
+    // Safety: as above, with five.
+    unsafe {
+        drive_set(
+            sheet.as_ptr(), sheet.len(), demands.as_ptr(), demands.len(), allowance,
+            list.as_mut_ptr(), list.len(), shares.as_mut_ptr(), shares.len(), answer.as_mut_ptr(), answer.len(),
         )
     }
 }
@@ -131,6 +149,40 @@ fn main() {
     assert_eq!(speed(&W, 1, 5, &mut list, &mut answer), 13);
     assert!(list[..LIST_BYTES].iter().chain(&answer[..SPEED_ANSWER_BYTES]).all(|byte| *byte == 0));
     println!("ok Rust: refusals of drive_speed");
+
+    let demands = [7, 0, 11, 3, 7, u32::MAX, 8, 4, 10, 1, 6, 65536 + 3, 5, 9, 2, 256 + 3];
+    let mut answer = vec![0xEE; SET_ANSWER_BYTES + 3];
+    for count in 1..=16 {
+        let mut shares = vec![0xEE; 16 * count + 3];
+        list.fill(0xEE);
+        assert_eq!(set(&W, &demands[..count], 0, 6, &mut list, &mut shares, &mut answer), 0);
+        assert_eq!(answers(&answer[..SET_ANSWER_BYTES]), [10000, 6, 4]);
+        assert!(list == bounds_list && shares[16 * count..] == [0xEE; 3] && answer[SET_ANSWER_BYTES..] == [0xEE; 3]);
+        for (pair, demand) in shares.chunks_exact(16).zip(demands) {
+            let mut five = vec![0xEE; ANSWER_BYTES];
+            assert_eq!(call(&W, demand, 6, &mut list, &mut five), 0);
+            assert_eq!(pair, &five[8..24]);
+        }
+    }
+    println!("ok Rust: sixteen demands in one call");
+
+    let mut shares = vec![0xEE; 16 * 17];
+    let refusals = [(&demands[..0], 0, 272, 17), (&demands[..1], 2, 272, 17), (&demands, 1, 0, 17), (&demands, 0, 255, 18)];
+    for (demands, cut, room, number) in refusals {
+        answer.fill(0xEE);
+        assert_eq!(set(&W, demands, cut, 5, &mut list, &mut shares[..room], &mut answer), number);
+        assert!(list == bounds_list && answers(&answer[..SET_ANSWER_BYTES]) == [0; 3]);
+        answer.fill(0xEE);
+        assert_eq!(set(&W, demands, cut, 6, &mut list, &mut shares[..room], &mut answer[..SET_ANSWER_BYTES - 1]), 12);
+        assert!(list == bounds_list && answer.iter().all(|byte| *byte == 0xEE));
+        assert_eq!(set(&W, demands, cut, 6, &mut list[..LIST_BYTES - 1], &mut shares[..room], &mut answer), 12);
+        assert_eq!(set(&W[..29], demands, cut, 6, &mut [], &mut [], &mut []), 1);
+    }
+    assert_eq!(set(&W, &[1; 17], 0, 6, &mut list, &mut shares, &mut answer), 17);
+    assert_eq!(set(&W, &demands, 0, 5, &mut list, &mut shares, &mut answer), 13);
+    assert!(list[..LIST_BYTES].iter().chain(&answer[..SET_ANSWER_BYTES]).all(|byte| *byte == 0));
+    assert!(shares.iter().all(|byte| *byte == 0xEE));
+    println!("ok Rust: refusals of drive_set");
 
     let mut plan = plan_of_w();
     let mut sheet = vec![0xEE; W.len() + 3];

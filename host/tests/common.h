@@ -15,6 +15,9 @@
 
 /* The signature of drive_bounds, which drive_speed has too, for what is called in their place. */
 typedef uint32_t bounds_fn(const uint8_t *, size_t, uint32_t, uint32_t, uint8_t *, size_t, uint8_t *, size_t);
+/* That of drive_set. */
+typedef uint32_t set_fn(const uint8_t *, size_t, const uint8_t *, size_t, uint32_t, uint8_t *, size_t, uint8_t *, size_t, uint8_t *,
+                        size_t);
 
 enum { SHEET_ROOM = 300 };
 
@@ -127,6 +130,16 @@ static inline struct plan two(struct component x, struct component y, unsigned j
     return make_plan(2, c, entry);
 }
 
+/* The greatest speed of a list. */
+static inline uint32_t greatest_high(const uint8_t *list, uint64_t intervals) {
+    uint32_t greatest = 0;
+    for (size_t i = 0; i < intervals; i++) {
+        uint32_t high = drive_read_interval(list, i).high;
+        if (high > greatest) greatest = high;
+    }
+    return greatest;
+}
+
 /* The bench table's D1, D2 and the first `third` speeds of D3: third times 64 speeds, evenly spaced. */
 static inline struct plan three(unsigned third) {
     static const uint16_t entry[5] = {0, 1, DRIVE_ED1_SHARED, 2, DRIVE_ED1_SHARED};
@@ -178,21 +191,24 @@ static inline struct fence make_fence(size_t size) {
 static inline uint8_t *from_start(struct fence f) { return f.pages + f.page; }
 static inline uint8_t *up_to_end(struct fence f, size_t length) { return f.pages + f.page + f.size - length; }
 
-/* A byte that tells its place, for what must stay unchanged. */
-static inline uint8_t mark(size_t i) { return (uint8_t)(i * 37 + i / 256 + 11); }
-
-static inline void fill_marks(uint8_t *bytes, size_t length) {
-    for (size_t i = 0; i < length; i++) bytes[i] = mark(i);
+/* Bytes that tell their places, for what must stay unchanged. No buffer is longer. */
+enum { MARKS = 1 << 15 };
+static inline const uint8_t *marks(void) {
+    static uint8_t bytes[MARKS];
+    if (bytes[0] == 0)
+        for (size_t i = 0; i < MARKS; i++) bytes[i] = (uint8_t)(i * 37 + i / 256 + 11);
+    return bytes;
 }
+
+static inline void fill_marks(uint8_t *bytes, size_t length) { memcpy(bytes, marks(), length); }
 
 static inline int holds_marks(const uint8_t *bytes, size_t from, size_t to) {
-    while (from < to && bytes[from] == mark(from)) from++;
-    return from == to;
+    return from <= to && memcmp(bytes + from, marks() + from, to - from) == 0;
 }
 
+/* The first byte is zero, and each equals the next. */
 static inline int holds_zeros(const uint8_t *bytes, size_t from, size_t to) {
-    while (from < to && bytes[from] == 0) from++;
-    return from == to;
+    return from == to || (from < to && bytes[from] == 0 && memcmp(bytes + from, bytes + from + 1, to - from - 1) == 0);
 }
 
 /* One line for each test: 'ok NAME', or what went wrong, the first times. */

@@ -1,11 +1,18 @@
-/* drive_bounds and drive_speed against the same jobs in plain C, and drive_bounds against the program "bounds", on random sheets,
- * valid and damaged.
+/* drive_bounds, drive_set and drive_speed against the same jobs in plain C, and drive_bounds against the program "bounds", on random
+ * sheets, valid and damaged.
  * compare BOUNDS FILE: the program, and a file to put its input in. */
 #include "common.h"
 
 #include "../bench/plain.h"
 
-enum { SHEETS = 30000, PROGRAM_EVERY = 100, LIST_ROOM = DRIVE_LIST_BYTES + 16, ANSWER_ROOM = DRIVE_SPEED_ANSWER_BYTES + 16 };
+enum {
+    SHEETS = 30000,
+    PROGRAM_EVERY = 100,
+    LIST_ROOM = DRIVE_LIST_BYTES + 16,
+    ANSWER_ROOM = DRIVE_SPEED_ANSWER_BYTES + 16,
+    DEMANDS_ROOM = (DRIVE_DEMANDS_MAX + 1) * DRIVE_DEMAND_BYTES,
+    SHARES_ROOM = (DRIVE_DEMANDS_MAX + 1) * DRIVE_SHARES_BYTES
+};
 
 static unsigned between(unsigned from, unsigned to) { return from + random_below(to - from + 1); }
 
@@ -95,58 +102,86 @@ static void damage_sheet(struct sheet *s) {
     }
 }
 
-/* A call or plain C, with its own buffers behind which nothing can be touched. */
+/* What is asked: a demand or a target, or the demands of drive_set. */
+struct question {
+    uint32_t asked;
+    const uint8_t *demands;
+    size_t demands_length;
+};
+
+/* The lengths of the other buffers. */
+struct lengths {
+    size_t list, shares, answer;
+};
+
+/* A call or plain C, drive_set's or another, with its own buffers behind which nothing can be touched. */
 struct side {
     bounds_fn *call;
-    struct fence list_pages, answer_pages;
-    uint8_t *list, *answer;
+    set_fn *set;
+    struct fence list_pages, shares_pages, answer_pages;
+    uint8_t *list, *shares, *answer;
     uint32_t number;
 };
 
-static struct side make_side(bounds_fn *call) {
-    struct side side = {call, make_fence(LIST_ROOM), make_fence(ANSWER_ROOM), NULL, NULL, 0};
+static struct side make_side(bounds_fn *call, set_fn *set) {
+    struct side side = {call, set, make_fence(LIST_ROOM), make_fence(SHARES_ROOM), make_fence(ANSWER_ROOM), NULL, NULL, NULL, 0};
     return side;
 }
 
-/* What is asked is a demand or a target. */
-static void run_side(struct side *side, const uint8_t *sheet, size_t length, uint32_t asked, uint32_t allowance, size_t list_length,
-                     size_t answer_length) {
-    side->list = up_to_end(side->list_pages, list_length);
-    side->answer = up_to_end(side->answer_pages, answer_length);
-    fill_marks(side->list, list_length);
-    fill_marks(side->answer, answer_length);
-    side->number = side->call(sheet, length, asked, allowance, side->list, list_length, side->answer, answer_length);
+static void run_side(struct side *side, const uint8_t *sheet, size_t length, struct question q, uint32_t allowance,
+                     struct lengths n) {
+    side->list = up_to_end(side->list_pages, n.list);
+    side->shares = up_to_end(side->shares_pages, n.shares);
+    side->answer = up_to_end(side->answer_pages, n.answer);
+    fill_marks(side->list, n.list);
+    fill_marks(side->shares, n.shares);
+    fill_marks(side->answer, n.answer);
+    if (side->set != NULL)
+        side->number = side->set(sheet, length, q.demands, q.demands_length, allowance, side->list, n.list, side->shares, n.shares,
+                                 side->answer, n.answer);
+    else
+        side->number = side->call(sheet, length, q.asked, allowance, side->list, n.list, side->answer, n.answer);
 }
 
-/* A call and plain C, on how many sheets so far, and how often each number was met. */
+/* A call and plain C, the bytes of the answer, the numbers that it has beside 0 to 14, or 0; on how many sheets so far, and how often
+ * each number was met. */
 struct both {
     const char *name;
     size_t answer_bytes;
+    uint32_t first, last;
     struct side drive, plain;
     unsigned sheets, met[DRIVE_NUMBER_COUNT];
 };
 
+/* From one byte fewer than a buffer needs up to the room, or any number below the room. */
+static size_t random_length(size_t needed, size_t room) {
+    if (random_below(4) == 0) return random_below((unsigned)room);
+    return between(needed > 0 ? (unsigned)needed - 1 : 0, (unsigned)room);
+}
+
 /* Both on a sheet: the same number, and the same bytes in every place. Buffers have exactly the bytes they need, or any number. */
-static void run_both(struct both *b, int exact, const uint8_t *sheet, size_t length, uint32_t asked, uint32_t allowance) {
-    size_t list_length = DRIVE_LIST_BYTES, answer_length = b->answer_bytes;
+static void run_both(struct both *b, int exact, const uint8_t *sheet, size_t length, struct question q, uint32_t allowance) {
+    struct lengths n = {DRIVE_LIST_BYTES, q.demands_length / DRIVE_DEMAND_BYTES * DRIVE_SHARES_BYTES, b->answer_bytes};
     if (!exact) {
-        list_length = random_below(4) == 0 ? random_below(LIST_ROOM) : between(DRIVE_LIST_BYTES - 1, LIST_ROOM);
-        answer_length = random_below(4) == 0 ? random_below(ANSWER_ROOM) : between((unsigned)b->answer_bytes - 1, ANSWER_ROOM);
+        n.list = random_length(n.list, LIST_ROOM);
+        n.shares = random_length(n.shares, SHARES_ROOM);
+        n.answer = random_length(n.answer, ANSWER_ROOM);
     }
-    run_side(&b->drive, sheet, length, asked, allowance, list_length, answer_length);
-    run_side(&b->plain, sheet, length, asked, allowance, list_length, answer_length);
-    EXPECT(b->drive.number == b->plain.number && memcmp(b->drive.list, b->plain.list, list_length) == 0 &&
-               memcmp(b->drive.answer, b->plain.answer, answer_length) == 0,
-           "%s, sheet %u, asked %u: numbers %u and %u, or other bytes", b->name, b->sheets, asked, b->drive.number, b->plain.number);
+    run_side(&b->drive, sheet, length, q, allowance, n);
+    run_side(&b->plain, sheet, length, q, allowance, n);
+    EXPECT(b->drive.number == b->plain.number && memcmp(b->drive.list, b->plain.list, n.list) == 0 &&
+               memcmp(b->drive.shares, b->plain.shares, n.shares) == 0 && memcmp(b->drive.answer, b->plain.answer, n.answer) == 0,
+           "%s, sheet %u, asked %u or %zu bytes: numbers %u and %u, or other bytes", b->name, b->sheets, q.asked, q.demands_length,
+           b->drive.number, b->plain.number);
     if (b->drive.number < DRIVE_NUMBER_COUNT) b->met[b->drive.number]++;
     b->sheets++;
 }
 
 /* Each number that a call has must have been met. */
-static void print_met(const struct both *b, uint32_t last) {
+static void print_met(const struct both *b) {
     printf("   %s met", b->name);
-    for (uint32_t number = 0; number <= last; number++) {
-        if (number == DRIVE_E_SHEET_BUFFER) continue;
+    for (uint32_t number = 0; number < DRIVE_NUMBER_COUNT; number++) {
+        if (number > DRIVE_E_LIST && (number < b->first || number > b->last)) continue;
         EXPECT(b->met[number] >= 20, "%s: number %u met only %u times", b->name, number, b->met[number]);
         printf(" %u: %u", number, b->met[number]);
     }
@@ -159,6 +194,28 @@ static uint32_t random_target(struct drive_answer a) {
     if (random_below(8) == 0) return outside[random_below(5)];
     if (random_below(2) == 0 || a.total == 0) return between(1, DRIVE_TARGET_MAX);
     return (uint32_t)((wide)1000 * a.belief / a.total) + random_below(2);
+}
+
+/* A demand: half of them at an end of an interval of the list or one above, where it has one. */
+static uint32_t random_demand(const uint8_t *list, unsigned intervals) {
+    if (intervals == 0 || random_below(2) == 0) {
+        uint32_t any = random_below(random_below(2) == 0 ? 30 : 5000);
+        return random_below(8) != 0 ? any : random_below(2) == 0 ? UINT32_MAX - any : any << 16;
+    }
+    struct drive_interval r = drive_read_interval(list, random_below(intervals));
+    return (random_below(2) == 0 ? r.low : r.high) + random_below(2);
+}
+
+/* Demands for drive_set, in no order, some equal, up to the end of their pages: 1 to 16, or any number of bytes. */
+static struct question random_demands(struct fence pages, const uint8_t *list, unsigned intervals) {
+    uint8_t bytes[DEMANDS_ROOM];
+    size_t length = random_below(8) == 0 ? random_below(DEMANDS_ROOM + 1) : between(1, DRIVE_DEMANDS_MAX) * DRIVE_DEMAND_BYTES;
+    uint32_t one = random_demand(list, intervals);
+    for (size_t i = 0; i < DEMANDS_ROOM / DRIVE_DEMAND_BYTES; i++)
+        drive_put_demand(bytes, i, random_below(8) == 0 ? one : random_demand(list, intervals));
+    struct question q = {0, up_to_end(pages, length), length};
+    memcpy(up_to_end(pages, length), bytes, length);
+    return q;
 }
 
 static void put32(FILE *f, uint32_t value) {
@@ -223,9 +280,19 @@ static void test_short_input(const char *program, const char *file) {
 }
 
 int main(int argc, char **argv) {
-    struct fence sheet_pages = make_fence(SHEET_ROOM);
-    struct both bounds = {"drive_bounds", DRIVE_ANSWER_BYTES, make_side(drive_bounds), make_side(plain_bounds), 0, {0}};
-    struct both speed = {"drive_speed", DRIVE_SPEED_ANSWER_BYTES, make_side(drive_speed), make_side(plain_speed), 0, {0}};
+    struct fence sheet_pages = make_fence(SHEET_ROOM), demands_pages = make_fence(DEMANDS_ROOM);
+    struct both bounds = {
+        "drive_bounds", DRIVE_ANSWER_BYTES, 0, 0, make_side(drive_bounds, NULL), make_side(plain_bounds, NULL), 0, {0},
+    };
+    struct both set = {
+        "drive_set", DRIVE_SET_ANSWER_BYTES, DRIVE_E_DEMANDS, DRIVE_E_SHARES_BUFFER, make_side(NULL, drive_set),
+        make_side(NULL, plain_set), 0, {0},
+    };
+    struct both speed = {
+        "drive_speed", DRIVE_SPEED_ANSWER_BYTES, DRIVE_E_TARGET, DRIVE_E_TARGET, make_side(drive_speed, NULL),
+        make_side(plain_speed, NULL), 0, {0},
+    };
+    const struct lengths enough = {DRIVE_LIST_BYTES, 0, DRIVE_ANSWER_BYTES};
     unsigned programs = 0;
     if (argc != 3) {
         fprintf(stderr, "usage: compare BOUNDS FILE\n");
@@ -244,21 +311,26 @@ int main(int argc, char **argv) {
         memcpy(sheet, s.bytes, s.length);
 
         /* Half of the allowances stand at the pair count or one below. */
-        uint32_t demand = random_below(random_below(2) == 0 ? 30 : 5000), allowance = DRIVE_PAIRS_MAX;
-        run_side(&bounds.plain, sheet, s.length, demand, allowance, DRIVE_LIST_BYTES, DRIVE_ANSWER_BYTES);
+        struct question demand = {random_below(random_below(2) == 0 ? 30 : 5000), NULL, 0};
+        uint32_t allowance = DRIVE_PAIRS_MAX;
+        run_side(&bounds.plain, sheet, s.length, demand, allowance, enough);
         struct drive_answer a = drive_read_answer(bounds.plain.answer);
+        struct question target = {random_target(a), NULL, 0};
+        struct question demands = random_demands(demands_pages, bounds.plain.list, (unsigned)a.intervals);
         if (random_below(2) == 0) allowance = a.pairs > 0 ? (uint32_t)a.pairs - random_below(2) : 0;
         int exact = random_below(8) != 0;
         run_both(&bounds, exact, sheet, s.length, demand, allowance);
-        run_both(&speed, exact, sheet, s.length, random_target(a), allowance);
+        run_both(&set, exact, sheet, s.length, demands, allowance);
+        run_both(&speed, exact, sheet, s.length, target, allowance);
         if (exact && i % PROGRAM_EVERY < 2) {
-            compare_program(argv[1], argv[2], &bounds.drive, sheet, s.length, demand, allowance);
+            compare_program(argv[1], argv[2], &bounds.drive, sheet, s.length, demand.asked, allowance);
             programs++;
         }
     }
     printf("   %d random sheets, %u of them also by bounds\n", SHEETS, programs);
-    print_met(&bounds, DRIVE_E_LIST);
-    print_met(&speed, DRIVE_E_TARGET);
+    print_met(&bounds);
+    print_met(&set);
+    print_met(&speed);
     finish("the calls, plain C and bounds agree on random sheets");
     test_short_input(argv[1], argv[2]);
     return failures != 0;

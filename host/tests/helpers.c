@@ -1,4 +1,4 @@
-/* The header's own functions: plans built and read, shares in hundredths of a percent, an answer with a speed. C and C++. */
+/* The header's own functions: plans built and read, shares in hundredths of a percent, demands, answers as values. C and C++. */
 #include "common.h"
 
 /* What the writer answers on a plan. */
@@ -204,6 +204,46 @@ static void test_speed_answer(struct fence pages) {
     finish("the answer of drive_speed as values");
 }
 
+/* Demands put one by one, right behind a page that can not be touched and right before one; nothing else is touched. */
+static void test_demands(struct fence pages) {
+    static const uint32_t values[] = {0, 1, 0x01020304, 0x80000000u, UINT32_MAX};
+    enum { BYTES = DRIVE_DEMANDS_MAX * DRIVE_DEMAND_BYTES };
+    uint8_t *places[] = {from_start(pages), up_to_end(pages, BYTES)};
+    for (size_t i = 0; i < 2 * DRIVE_DEMANDS_MAX; i++) {
+        uint8_t *demands = places[i / DRIVE_DEMANDS_MAX];
+        size_t from = i % DRIVE_DEMANDS_MAX * DRIVE_DEMAND_BYTES;
+        for (unsigned k = 0; k < 5; k++) {
+            fill_marks(demands, BYTES);
+            size_t length = drive_put_demand(demands, i % DRIVE_DEMANDS_MAX, values[k]);
+            EXPECT(length == from + DRIVE_DEMAND_BYTES, "demand %zu: length %zu", i, length);
+            EXPECT(demands[from] == values[k] >> 24 && demands[from + 1] == (values[k] >> 16 & 255) &&
+                       demands[from + 2] == (values[k] >> 8 & 255) && demands[from + 3] == (values[k] & 255),
+                   "the bytes of %u", values[k]);
+            EXPECT(holds_marks(demands, 0, from) && holds_marks(demands, from + DRIVE_DEMAND_BYTES, BYTES), "demand %zu, others", i);
+        }
+    }
+    finish("the demands of drive_set, nothing else touched");
+}
+
+/* Each pair of drive_set with the three answers, from buffers that end right behind them. All bytes of the shares differ. */
+static void test_shares(struct fence shares_pages, struct fence answer_pages) {
+    for (size_t count = 1; count <= DRIVE_DEMANDS_MAX; count++) {
+        uint8_t *shares = up_to_end(shares_pages, count * DRIVE_SHARES_BYTES);
+        uint8_t *answer = up_to_end(answer_pages, DRIVE_SET_ANSWER_BYTES);
+        for (size_t i = 0; i < count * DRIVE_SHARES_BYTES; i++) shares[i] = (uint8_t)(i + 100);
+        for (unsigned i = 0; i < DRIVE_SET_ANSWER_BYTES; i++) answer[i] = (uint8_t)(10 * (i / 8) + i % 8 + 1);
+        for (size_t i = 0; i < count; i++) {
+            struct drive_answer a = drive_read_shares(answer, shares, i);
+            const uint8_t *pair = shares + DRIVE_SHARES_BYTES * i;
+            EXPECT(a.total == 0x0102030405060708u && a.pairs == 0x0B0C0D0E0F101112u, "total, pairs");
+            EXPECT(a.intervals == 0x15161718191A1B1Cu, "intervals");
+            EXPECT(a.belief == drive_read(pair, 8) && a.plausibility == drive_read(pair + 8, 8), "pair %zu of %zu", i, count);
+        }
+        EXPECT(drive_read_shares(answer, shares, 0).belief == 0x6465666768696A6Bu, "the first belief");
+    }
+    finish("the shares of drive_set as values");
+}
+
 static void test_version(void) {
     char version[32];
     snprintf(version, sizeof version, "%d.%d.%d", DRIVE_VERSION_MAJOR, DRIVE_VERSION_MINOR, DRIVE_VERSION_PATCH);
@@ -224,6 +264,8 @@ int main(void) {
     finish("plans built and read, nothing outside touched, nothing cut to a valid number");
     test_hundredths();
     test_speed_answer(pages);
+    test_demands(pages);
+    test_shares(make_fence(DRIVE_DEMANDS_MAX * DRIVE_SHARES_BYTES), pages);
     test_version();
     return failures != 0;
 }

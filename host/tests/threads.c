@@ -6,11 +6,11 @@
 #include <pthread.h>
 #include <sys/wait.h>
 
-enum { PLANS = 7, CALLS = 4, THREADS = 4, ROUNDS = 200, STACK = 1 << 18, PAINT = 0xA5 };
+enum { PLANS = 7, CALLS = 5, THREADS = 4, ROUNDS = 200, STACK = 1 << 18, PAINT = 0xA5 };
 
-static const char *const names[CALLS] = {"drive_bounds", "drive_write_sheet", "drive_read_sheet", "drive_speed"};
+static const char *const names[CALLS] = {"drive_bounds", "drive_write_sheet", "drive_read_sheet", "drive_speed", "drive_set"};
 
-/* The four calls, linked or from a library, or what is called in their place. */
+/* The five calls, linked or from a library, or what is called in their place. */
 typedef uint32_t write_fn(const uint8_t *, size_t, uint8_t *, size_t, uint8_t *, size_t);
 typedef uint32_t read_fn(const uint8_t *, size_t, uint8_t *, size_t);
 struct calls {
@@ -18,6 +18,7 @@ struct calls {
     write_fn *write;
     read_fn *read;
     bounds_fn *speed;
+    set_fn *set;
 };
 
 /* One of the calls with its own buffers. */
@@ -25,9 +26,9 @@ struct job {
     const struct calls *calls;
     unsigned which;
     struct sheet sheet;
-    uint8_t plan[DRIVE_PLAN_BYTES];
+    uint8_t plan[DRIVE_PLAN_BYTES], demands[DRIVE_DEMANDS_MAX * DRIVE_DEMAND_BYTES];
     uint32_t number;
-    uint8_t list[DRIVE_LIST_BYTES], answer[DRIVE_SPEED_ANSWER_BYTES];
+    uint8_t list[DRIVE_LIST_BYTES], answer[DRIVE_SPEED_ANSWER_BYTES], shares[DRIVE_DEMANDS_MAX * DRIVE_SHARES_BYTES];
     uint8_t sheet_out[DRIVE_SHEET_BYTES_MAX], plan_out[DRIVE_PLAN_BYTES];
 };
 
@@ -40,8 +41,11 @@ static void run_job(struct job *j) {
         j->number = c->write(j->plan, sizeof j->plan, j->sheet_out, sizeof j->sheet_out, j->answer, sizeof j->answer);
     else if (j->which == 2)
         j->number = c->read(s->bytes, s->length, j->plan_out, sizeof j->plan_out);
-    else
+    else if (j->which == 3)
         j->number = c->speed(s->bytes, s->length, 750, DRIVE_PAIRS_MAX, j->list, sizeof j->list, j->answer, sizeof j->answer);
+    else
+        j->number = c->set(s->bytes, s->length, j->demands, sizeof j->demands, DRIVE_PAIRS_MAX, j->list, sizeof j->list, j->shares,
+                           sizeof j->shares, j->answer, sizeof j->answer);
 }
 
 static struct plan plan_of(unsigned i) {
@@ -70,6 +74,7 @@ static struct job make_job(const struct calls *calls, unsigned which, unsigned p
     j.which = which;
     j.sheet = make_sheet(&p);
     put_plan(&p, j.plan);
+    for (uint32_t i = 0; i < DRIVE_DEMANDS_MAX; i++) drive_put_demand(j.demands, i, (i * 7 + plan) % DRIVE_DEMANDS_MAX * 17);
     return j;
 }
 
@@ -90,8 +95,15 @@ static uint32_t no_read(const uint8_t *sheet, size_t sheet_length, uint8_t *plan
     return (uint32_t)(sheet_length + plan_length);
 }
 
-static const struct calls linked = {drive_bounds, drive_write_sheet, drive_read_sheet, drive_speed};
-static const struct calls nothing = {no_bounds, no_write, no_read, no_bounds};
+static uint32_t no_set(const uint8_t *sheet, size_t sheet_length, const uint8_t *demands, size_t demands_length, uint32_t allowance,
+                       uint8_t *list, size_t list_length, uint8_t *shares, size_t shares_length, uint8_t *answer,
+                       size_t answer_length) {
+    (void)sheet, (void)demands, (void)list, (void)shares, (void)answer;
+    return (uint32_t)(sheet_length + demands_length + allowance + list_length + shares_length + answer_length);
+}
+
+static const struct calls linked = {drive_bounds, drive_write_sheet, drive_read_sheet, drive_speed, drive_set};
+static const struct calls nothing = {no_bounds, no_write, no_read, no_bounds, no_set};
 
 static void *one_job(void *job) {
     run_job((struct job *)job);
@@ -132,7 +144,7 @@ static size_t stack_of_first(const char *library, unsigned which, unsigned plan)
     if (pipe(ends) != 0) exit(2);
     pid_t child = fork();
     if (child == 0) {
-        struct calls calls = {NULL, NULL, NULL, NULL};
+        struct calls calls = {NULL, NULL, NULL, NULL, NULL};
         void *handle = dlopen(library, RTLD_LAZY | RTLD_LOCAL), *function = handle == NULL ? NULL : dlsym(handle, names[which]);
         if (function == NULL) {
             fprintf(stderr, "%s: %s\n", library, dlerror());
@@ -142,6 +154,7 @@ static size_t stack_of_first(const char *library, unsigned which, unsigned plan)
         if (which == 1) memcpy(&calls.write, &function, sizeof function);
         if (which == 2) memcpy(&calls.read, &function, sizeof function);
         if (which == 3) memcpy(&calls.speed, &function, sizeof function);
+        if (which == 4) memcpy(&calls.set, &function, sizeof function);
         used = stack_of(&calls, which, plan);
         _exit(write(ends[1], &used, sizeof used) == (ssize_t)sizeof used ? 0 : 2);
     }
@@ -176,7 +189,7 @@ static struct job alone[JOBS];
 static int same(const struct job *x, const struct job *y) {
     return x->number == y->number && memcmp(x->list, y->list, sizeof x->list) == 0 &&
            memcmp(x->answer, y->answer, sizeof x->answer) == 0 && memcmp(x->sheet_out, y->sheet_out, sizeof x->sheet_out) == 0 &&
-           memcmp(x->plan_out, y->plan_out, sizeof x->plan_out) == 0;
+           memcmp(x->plan_out, y->plan_out, sizeof x->plan_out) == 0 && memcmp(x->shares, y->shares, sizeof x->shares) == 0;
 }
 
 /* One of several threads with its own jobs, and how many of their results were others. */
