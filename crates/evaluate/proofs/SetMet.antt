@@ -29,9 +29,9 @@ use Rattle.evaluate.specs.Store.{storeAfter}
 use Rattle.evaluate.specs.SheetRun.{refusedRun, sheetRunOf, endingAt, storeAt, withoutShares}
 use Rattle.evaluate.specs.Set.{demandTests, setTests, sharesBy}
 use Rattle.evaluate.specs.Demands.{Passed, Demand-1, setAnswered, setStore, sharesThen, Place, demandOf, beliefOf, plausibilityOf, SetMet}
-use Rattle.evaluate.proofs.Finish.{drive-fits}
+use Rattle.evaluate.proofs.Finish.{drive-fits, shares-refused}
 use Rattle.evaluate.proofs.Numbers.{set-numbered, answer-is, store-is, set-answer-is, set-store-is, shares-is}
-use Rattle.evaluate.proofs.Demands.{endNumber, passes, demand-1-of, number-own, same-number, Accepted, valid, demand-2-of, demand-3-of, run-by}
+use Rattle.evaluate.proofs.Demands.{endNumber, passes, demand-1-of, number-own, same-number, Accepted, valid, demand-2-of, demand-3-of, number-by, run-by, zeros-by}
 use Rattle.evaluate.proofs.Demands.{RunFits64, refused-fits, answer-fits}
 
 module _ (s demands : List ℕ) (allowance : ℕ) (store shares : List ℕ) where
@@ -50,23 +50,18 @@ module _ (s demands : List ℕ) (allowance : ℕ) (store shares : List ℕ) wher
   run-is : here ≡ sheetRunOf end s
   run-is = set-answer-is s demands allowance room (length shares)
 
-  run-number : (v : Evaluation Tree) → (sheetRunOf v s) .number ≡ endNumber v
-  run-number (refused k) = refl
-  run-number (completed stack pairs) = refl
-
   number-is : here .number ≡ endNumber end
-  number-is = ap (λ (r : SheetRun). r .number) run-is ∙ run-number end
+  number-is = ap (λ (r : SheetRun). r .number) run-is ∙ number-by end s 0
 
   first : Demand-1 (setTests s demands room (length shares)) s allowance (here .number) store (setStore s demands allowance store shares)
   first = demand-1-of (setTests s demands room (length shares)) s allowance store (set-numbered s demands room (length shares)) number-is (set-store-is s demands allowance store (length shares))
 
   -- A refusal.
-  zeros-by : (k : ℕ) → 0 < k → (v : Evaluation Tree) → endNumber v ≡ k → (sheetRunOf v s ≡ refusedRun k) × (sharesBy v demands (sheetOutcomes s) shares ≡ shares)
-  zeros-by k h (refused n) e = (ap refusedRun e, refl)
-  zeros-by k h (completed stack pairs) e = absurd (omega arith)
-
   zeros : (k : ℕ) → 0 < k → here .number ≡ k → here ≡ refusedRun k
-  zeros k h e = run-is ∙ zeros-by k h end (sym number-is ∙ e) .0
+  zeros k h e = run-is ∙ ap withoutShares (zeros-by k h end s 0 (sym number-is ∙ e))
+
+  shares-kept : (k : ℕ) → 0 < k → here .number ≡ k → sharesThen s demands allowance store shares ≡ shares
+  shares-kept k h e = shares-is s demands allowance room shares ∙ sym (shares-refused s demands shares end run-is (λ z. omega arith))
 
   -- The bytes behind the last pair.
   later-by : (v : Evaluation Tree) → drop (sharesBytes * count) (sharesBy v demands (sheetOutcomes s) shares) ≡ drop (sharesBytes * count) shares
@@ -175,7 +170,7 @@ module _ (s demands : List ℕ) (allowance : ℕ) (store shares : List ℕ) wher
     seventeen = seventeen;
     eighteen = eighteen;
     zeros = zeros;
-    shares-kept = λ k h e. shares-is s demands allowance room shares ∙ zeros-by k h end (sym number-is ∙ e) .1;
+    shares-kept = shares-kept;
     later-kept = ap (drop (sharesBytes * count)) (shares-is s demands allowance room shares) ∙ later-by end;
     as-ordinary = as-ordinary;
     store-as-ordinary = store-as-ordinary;
