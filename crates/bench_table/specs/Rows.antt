@@ -34,9 +34,9 @@ componentOf total count x y z =
       total = total;
     }
 
--- The first so many of eight single speeds, with weight 1 each.
-unfoldable pub singleSpeeds : List ℕ → ℕ → Component
-singleSpeeds speeds count = record { lows = speeds; highs = speeds; weights = replicate 8 1; count = count; total = count }
+-- The first so many of eight single speeds, with weight 1 each, and a total T.
+unfoldable pub singleSpeeds : List ℕ → ℕ → ℕ → Component
+singleSpeeds speeds count total = record { lows = speeds; highs = speeds; weights = replicate 8 1; count = count; total = total }
 
 -- "A: T 4, [0,0] weight 1, [2,3] weight 3. B: T 3, [1,1] weight 2, [1,4] weight 1."
 unfoldable pub componentA : Component
@@ -57,13 +57,13 @@ abbrev pub times : ℕ → List ℕ
 times step = map (λ j. step * j) (countFrom 0 8)
 
 unfoldable pub D1 : Component
-D1 = singleSpeeds (times 1) 8
+D1 = singleSpeeds (times 1) 8 8
 
 unfoldable pub D2 : Component
-D2 = singleSpeeds (times 8) 8
+D2 = singleSpeeds (times 8) 8 8
 
 unfoldable pub D3 : ℕ → Component
-D3 = singleSpeeds (times 64)
+D3 count = singleSpeeds (times 64) count count
 
 -- The plan of n components with the structure 0, 0 1 join or 0 1 join 2 join.
 unfoldable pub chain : ℕ → Component → Component → Component → ℕ → Plan

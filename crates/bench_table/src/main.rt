@@ -1,7 +1,7 @@
-// Runs every row of the bench table, and rows of its own for the calls for a speed and for a set of demands: plans are written as sheets, and
-// the answer of each call and its list, record by record, are compared with the table's. Prints a line for each row, and how many rows
-// disagree. What is printed is open in the contracts of the functions that print, and so is the count of rows that they hand on; every
-// other function says what it answers.
+// Runs every row of the bench table, and rows of its own for time that nobody accounted for, for a speed and for a set of demands: plans are
+// written as sheets, and the answer of each call and its list, record by record, are compared with the table's. Prints a line for each
+// row, and how many rows disagree. What is printed is open in the contracts of the functions that print, and so is the count of rows
+// that they hand on; every other function says what it answers.
 use evaluate::Answer;
 use evaluate::SheetRun;
 use evaluate::SpeedAnswer;
@@ -41,6 +41,88 @@ const P7: [u64; 12] = [0, 4, 2000, 0, 6, 5360, 3, 8, 2211, 7, 10, 429];
 
 const T1000: [u64; 3] = [0, 4095, 1000];
 
+// The lists of eight single speeds and a rest, and of two of these in series.
+const NINE: [u64; 27] = [
+    0,
+    0,
+    1,
+    0,
+    4095,
+    1,
+    1,
+    1,
+    1,
+    2,
+    2,
+    1,
+    3,
+    3,
+    1,
+    4,
+    4,
+    1,
+    5,
+    5,
+    1,
+    6,
+    6,
+    1,
+    7,
+    7,
+    1,
+];
+
+const NINES: [u64; 48] = [
+    0,
+    0,
+    17,
+    0,
+    1,
+    2,
+    0,
+    2,
+    2,
+    0,
+    3,
+    2,
+    0,
+    4,
+    2,
+    0,
+    5,
+    2,
+    0,
+    6,
+    2,
+    0,
+    7,
+    2,
+    0,
+    4095,
+    1,
+    1,
+    1,
+    13,
+    2,
+    2,
+    11,
+    3,
+    3,
+    9,
+    4,
+    4,
+    7,
+    5,
+    5,
+    5,
+    6,
+    6,
+    3,
+    7,
+    7,
+    1,
+];
+
 // A shares' buffer has room for four demands and 8 bytes behind them: 9 numbers. Each byte is 1 before the call, so each number is ONES.
 const SHARES_HELD: usize = 9;
 
@@ -69,16 +151,16 @@ fn component(total: u16, count: usize, x: [u16; 3], y: [u16; 3], z: [u16; 3]) ->
     }
 }
 
-// D1, D2 and D3: the first so many of eight single speeds, with weight 1 each.
-fn single_speeds(speeds: [u16; 8], count: u16) -> Component
-    ensures { λ r. ⌜ r ≡ singleSpeeds speeds count ⌝ }
+// D1, D2 and D3: the first so many of eight single speeds, with weight 1 each, and a total T.
+fn single_speeds(speeds: [u16; 8], count: u16, total: u16) -> Component
+    ensures { λ r. ⌜ r ≡ singleSpeeds speeds count total ⌝ }
 {
     Component {
         lows: speeds,
         highs: speeds,
         weights: [1; 8],
         count: count as usize,
-        total: count,
+        total: total,
     }
 }
 
@@ -112,9 +194,9 @@ fn a_and_b(join: u16) -> Sheet
 fn d_with(count: u16) -> Sheet
     ensures { λ r. ⌜ r ≡ sheetOf (chain 3 D1 D2 (D3 count) sharedCode) ⌝ }
 {
-    let d1 = single_speeds([0, 1, 2, 3, 4, 5, 6, 7], 8);
-    let d2 = single_speeds([0, 8, 16, 24, 32, 40, 48, 56], 8);
-    let d3 = single_speeds([0, 64, 128, 192, 256, 320, 384, 448], count);
+    let d1 = single_speeds([0, 1, 2, 3, 4, 5, 6, 7], 8, 8);
+    let d2 = single_speeds([0, 8, 16, 24, 32, 40, 48, 56], 8, 8);
+    let d3 = single_speeds([0, 64, 128, 192, 256, 320, 384, 448], count, count);
     written(3, d1, d2, d3, SHARED_CODE)
 }
 
@@ -555,6 +637,78 @@ fn rows_of_limits(mut n: u64) -> u64 {
     refused_row(n, a_and_b_as(0x00, 0x80), 0, 1000, ROOM, 10)
 }
 
+// Time that nobody accounted for. Byte 3 of the sheet of A and B ends A's T.
+fn rows_of_rests(mut n: u64) -> u64 {
+    let logged = component(1000, 2, [900, 1400, 500], [1200, 2000, 440], [0; 3]);
+    let any = component(10, 2, [0, 4095, 3], [5, 6, 4], [0; 3]);
+    let little = component(1000, 1, [4095, 4095, 1], [0; 3], [0; 3]);
+    let eight = single_speeds([0, 1, 2, 3, 4, 5, 6, 7], 8, 9);
+    let nines = written(2, eight, eight, eight, SERIES_CODE);
+    let mut above = a_and_b(SHARED_CODE);
+    above.bytes[3] = 3;
+    let mut below = above;
+    below.bytes[3] = 5;
+    io::write_all(STDOUT_FILENO, b"940 of 1,000 accounted for, demand 1,000");
+    n = row(
+        n,
+        written(1, logged, any, any, SERIES_CODE),
+        1000,
+        0,
+        ROOM,
+        accepted(1000, 440, 1000, 0, 3),
+        &[0, 4095, 60, 900, 1400, 500, 1200, 2000, 440],
+    );
+    io::write_all(STDOUT_FILENO, b"a rest where [0,4095] is listed, demand 5");
+    n = row(
+        n,
+        written(1, any, any, any, SERIES_CODE),
+        5,
+        0,
+        ROOM,
+        accepted(10, 4, 10, 0, 2),
+        &[0, 4095, 6, 5, 6, 4],
+    );
+    io::write_all(STDOUT_FILENO, b"weight 1 of T 1,000, demand 4,095");
+    n = row(
+        n,
+        written(1, little, any, any, SERIES_CODE),
+        4095,
+        0,
+        ROOM,
+        accepted(1000, 1, 1000, 0, 2),
+        &[0, 4095, 999, 4095, 4095, 1],
+    );
+    io::write_all(STDOUT_FILENO, b"eight intervals and a rest, demand 7");
+    n = row(
+        n,
+        written(1, eight, any, any, SERIES_CODE),
+        7,
+        0,
+        ROOM,
+        accepted(9, 1, 2, 0, 9),
+        &NINE,
+    );
+    io::write_all(
+        STDOUT_FILENO,
+        b"two of these in series, demand 7, allowance 81",
+    );
+    n = row(n, nines, 7, 81, ROOM, accepted(81, 1, 4, 81, 16), &NINES);
+    io::write_all(STDOUT_FILENO, b"two of these in series, allowance 80");
+    n = refused_row(n, nines, 7, 80, ROOM, 13);
+    io::write_all(STDOUT_FILENO, b"case P2, A with T 3");
+    n = refused_row(n, above, 3, 1000, ROOM, 8);
+    io::write_all(STDOUT_FILENO, b"case P2, A with T 5, demand 3");
+    row(
+        n,
+        below,
+        3,
+        1000,
+        ROOM,
+        accepted(15, 9, 13, 6, 6),
+        &[1, 1, 2, 1, 4, 1, 1, 4096, 2, 1, 4099, 1, 3, 4, 6, 3, 7, 3],
+    )
+}
+
 // A row of W for a speed.
 fn speed_of_w(n: u64, target: u32, speed: u64, belief: u64, plausibility: u64) -> u64 {
     let want = accepted(10000, belief, plausibility, 6, 4);
@@ -726,7 +880,7 @@ fn rows_of_refused_sets(mut n: u64) -> u64 {
 
 fn main() {
     let n = rows_of_limits(rows_of_w_and_refusals(rows_of_a_and_b(0)));
-    let m = rows_of_refused_speeds(rows_of_speeds(n));
+    let m = rows_of_refused_speeds(rows_of_speeds(rows_of_rests(n)));
     print(
         b"rows that disagree: ",
         rows_of_refused_sets(rows_of_sets(m)),

@@ -20,7 +20,8 @@ use Rattle.theory.specs.Masses.{total}
 use Rattle.theory.specs.Focal.{Focal, weights, Positive}
 use Rattle.theory.specs.Choices.{belief, plausibility}
 use Rattle.theory.specs.Bounds.{Bounds}
-use Rattle.theory.proofs.Every.{every-map}
+use Rattle.theory.proofs.Every.{every-map, every-all}
+use Rattle.theory.proofs.Masses.{length-masses, rest-added}
 use Rattle.theory.proofs.Steps.{positive-outcomesOf}
 use Rattle.theory.proofs.Collect.{order-collect, positive-collect, where-le, share-antitone, weightAt-collect, belief-collect, plausibility-collect}
 use Rattle.theory.proofs.Totals.{weights-listOf, weights-driveList, total-le}
@@ -185,6 +186,10 @@ module _ {s : List ℕ} {allowance : ℕ} {store : List ℕ} {r : SheetRun} {aft
         let fits = drive-fits valid in
         let six : length (components s) ≤ mostComponents = omega (arith, components-count (planOf s), valid .most) in
         record {
+          masses-most = every-map (λ c h. length-masses c (h .1)) (valid .counts);
+          masses-once = valid .distinct;
+          masses-whole = valid .balanced;
+          masses-rest = every-all rest-added (components s);
           total-is = total-is;
           belief-is = b;
           plausibility-is = p;

@@ -7,7 +7,8 @@ use mathlib.Core.Logic.{_⊎_, _↔_}
 use mathlib.Core.List.{List, [], _∷_, _++_}
 use lib.ListN.{length, take, drop, getD}
 use Rattle.theory.specs.Sums.{Every}
-use Rattle.theory.specs.Masses.{total}
+use Rattle.theory.specs.Masses.{masses, total, AllDistinct, Balanced}
+use Rattle.theory.specs.Rest.{RestAdded}
 use Rattle.theory.specs.Focal.{weights, Positive}
 use Rattle.theory.specs.Structure.{Tree, trees}
 use Rattle.theory.specs.Choices.{choices, belief, plausibility, weightAt, Spans}
@@ -16,7 +17,7 @@ use Rattle.theory.specs.Lists.{listOf, totalOf}
 use Rattle.theory.specs.Evaluation.{pairCount, completed, refused}
 use Rattle.theory.specs.Bounds.{Bounds, Antitone}
 use Rattle.theory.specs.Speed.{GreatestDemand}
-use Rattle.theory.specs.Limits.{mostTotal, mostComponents, thousandths, mostDemands}
+use Rattle.theory.specs.Limits.{mostMasses, mostTotal, mostComponents, thousandths, mostDemands}
 use Rattle.numbers.specs.Numbers.{Bytes, numberAt}
 use Rattle.records.specs.Records.{records}
 use Rattle.plan.specs.declared.Plan.{Plan}
@@ -65,6 +66,12 @@ module _ (tests : List Test) (s : List ℕ) (allowance number : ℕ) (store afte
 -- demand that is asked, which is `demandAt i` for an i of I.
 module _ {I : Type 0} (s : List ℕ) (allowance : ℕ) (answered : SheetRun) (after : List ℕ) (demandAt beliefAt plausibilityAt : I → ℕ) where
   pub record Demand-2 : Type 0 where
+    -- Each component's mass assignment has up to nine focal elements, each once, so that none is chosen twice; their weights add to T; and the rest
+    -- is one of them or added to one.
+    pub masses-most : Every (λ c. length (masses c) ≤ mostMasses) (components s)
+    pub masses-once : AllDistinct (components s)
+    pub masses-whole : Balanced (components s)
+    pub masses-rest : Every RestAdded (components s)
     -- The answers are those of the sum over all choices, the shares at every demand.
     pub total-is : answered .total ≡ total (components s)
     pub belief-is : (i : I) → beliefAt i ≡ belief (demandAt i) (sheetOutcomes s)

@@ -97,11 +97,11 @@ fn run_sheet(sheet: &[u8], own: u8, allowance: u32, store: &mut [u8]) -> SheetRu
         return refuse(number);
     }
     let p = t.plan;
+    let u = total_of(p);
     let ran = run::run_plan(p, allowance, store);
     if ran.number != 0 {
         return refuse(ran.number);
     }
-    let u = total_of(p);
     SheetRun {
         number: 0,
         total: u,

@@ -2,7 +2,7 @@
 
 ghost use mathlib.Core.Path.{_≡_};
 ghost use mathlib.Core.List.{[]};
-ghost use Prim.Native.Nat.{_+_, _*_, _^_, _≤_, _<_};
+ghost use Prim.Native.Nat.{_+_, _-_, _*_, _^_, _≤_, _<_};
 ghost use lib.ListN.{length};
 ghost use Rattle.theory.specs.Sums.{Every};
 ghost use Rattle.theory.specs.Masses.{masses};
@@ -14,7 +14,7 @@ ghost use Rattle.records.specs.Records.{records, Under, speedLimit, Storable, k
 ghost use Rattle.records.specs.Store.{copiedFrom, holding, holdingFrom};
 ghost use Rattle.records.specs.Insertion.{Insertable};
 ghost use Rattle.joins.specs.Filling.{fill};
-ghost use Rattle.joins.specs.Joins.{joinedAs, joinNumber, joinLength, numberOfJoin, lengthOfJoin, rowOf, filledRow, joinIn, joinedStore, Joinable};
+ghost use Rattle.joins.specs.Joins.{listingOf, RestFits, joinedAs, joinNumber, joinLength, numberOfJoin, lengthOfJoin, rowOf, filledRow, joinIn, joinedStore, Joinable};
 use records::SPEED_LIMIT;
 use theory::Component;
 use theory::Join;
@@ -26,6 +26,12 @@ use theory::RECORD_BYTES;
 const SHORT: usize = 16;
 
 const SHORT_BYTES: usize = RECORD_BYTES * SHORT;
+
+// What putting a component's listed intervals answers: the list's length, and the rest.
+struct Listing {
+    count: usize,
+    rest: u64,
+}
 
 // What a join answers: its list's length, or that its list has more than 256 different intervals.
 pub enum Joined {
@@ -160,26 +166,54 @@ pub fn join_in_store(
     join_copied(op, &mut a, &mut b, store, left, na, right, nb, free)
 }
 
+// What b leaves of a.
+fn left_of(a: u64, b: u64) -> u64
+    ensures { λ r. ⌜ r ≡ a - b ⌝ }
+{
+    if b < a { a - b } else { 0 }
+}
+
 // Builds the list of what a component lists at the front of out.
-fn put_listed(c: Component, out: &mut [u8]) -> usize
+fn put_listed(c: Component, out: &mut [u8]) -> Listing
     requires { ⌜ (c .count ≤ mostHeld) × (listBytes ≤ length (now out)) ⌝ }
-    ensures { λ r. ⌜ r ≡ length (collect (listed c)) ⌝ }
+    ensures { λ r. ⌜ r ≡ listingOf c ⌝ }
     ensures { λ _. ⌜ now (out .exit) ≡ holding (now (out .entry)) (collect (listed c)) ⌝ }
-    ensures { λ _. ⌜ Storable (collect (listed c)) ⌝ }
+    ensures { λ _. ⌜ RestFits c ⌝ }
 {
     let lows = c.lows;
     let highs = c.highs;
     let weights = c.weights;
     let count = c.count;
     let mut m = 0;
+    let mut rest = numbers::widened(c.total);
     let mut i = 0;
     while i < count {
         let key = numbers::widened(lows[i]) * SPEED_LIMIT + numbers::widened(highs[i]);
-        let r = records::insert(out, m, key, numbers::widened(weights[i]), m);
+        let weight = numbers::widened(weights[i]);
+        let r = records::insert(out, m, key, weight, m);
         m = r.count;
+        rest = left_of(rest, weight);
         i += 1;
     }
-    m
+    Listing { count: m, rest }
+}
+
+// Builds the list of a component's mass assignment at the front of out: what it lists, and the rest, if there is one, on the interval from 0
+// to 4,095, whose key is its high.
+fn put_masses(c: Component, out: &mut [u8]) -> usize
+    requires { ⌜ (c .count ≤ mostHeld) × (listBytes ≤ length (now out)) ⌝ }
+    ensures { λ r. ⌜ r ≡ length (collect (masses c)) ⌝ }
+    ensures { λ _. ⌜ now (out .exit) ≡ holding (now (out .entry)) (collect (masses c)) ⌝ }
+{
+    let key = numbers::widened(theory::TOP_SPEED);
+    let listing = put_listed(c, out);
+    let n = listing.count;
+    let rest = listing.rest;
+    if 0 < rest {
+        let r = records::insert(out, n, key, rest, 0);
+        return r.count;
+    }
+    n
 }
 
 // Builds the list of a component's mass assignment in the free rest of a store.
@@ -188,5 +222,5 @@ pub fn put_in_store(c: Component, store: &mut [u8], free: usize) -> usize
     ensures { λ r. ⌜ r ≡ length (collect (masses c)) ⌝ }
     ensures { λ _. ⌜ now (store .exit) ≡ holdingFrom (now (store .entry)) free (collect (masses c)) ⌝ }
 {
-    put_listed(c, &mut store[free..])
+    put_masses(c, &mut store[free..])
 }

@@ -1,25 +1,26 @@
 -- A plan that keeps the rules meets every premise of the drive calculation. Assumes nothing.
-use borrow.Author.Tests.{ltb-false, eqb-true, eqb-false, not-false, lt-ltb, le-ltb, ne-eqb}
+use borrow.Author.Tests.{ltb-true, ltb-false, eqb-true, eqb-false, not-false, lt-ltb, le-ltb, ne-eqb}
 use mathlib.Core.Path.{_≡_, refl, sym, _∙_}
-use mathlib.Core.Bool.{false, _||_}
-use mathlib.Core.List.{List}
-use Prim.Native.Nat.{ℕ, _≤_}
+use mathlib.Core.Bool.{Bool, true, false, cond, not, _&&_, _||_, false≢true}
+use mathlib.Core.List.{List, map}
+use Prim.Native.Nat.{ℕ, zero, suc, _+_, _-_, _*_, _≤_, _<_}
 use native.Mathlib.Decide.{decLt}
 use native.Mathlib.Omega.{arith}
 use lib.Dec.{ltb, eqb}
 use Rattle.theory.specs.Sums.{countFrom, countOf, Every, none, more}
-use Rattle.theory.specs.Focal.{focalAt, listed, weights, InRange, Positive}
+use Rattle.theory.specs.Focal.{Focal, focalAt, listed, weights, InRange, Positive}
+use Rattle.theory.specs.Masses.{timesAt, Distinct}
 use Rattle.theory.specs.Limits.{topSpeed, mostHeld, mostTotal, mostComponents}
 use Rattle.theory.specs.declared.Entry.{Entry}
 use Rattle.theory.specs.Structure.{named, NamedOnce}
 use Rattle.theory.specs.declared.Component.{Component}
 use Rattle.theory.proofs.Every.{every-image}
-use Rattle.theory.proofs.Masses.{range-masses, positive-masses, balanced-masses}
+use Rattle.theory.proofs.Masses.{Compared, same, apart, compared, range-masses, positive-masses, distinct-masses, balanced-masses}
 use Rattle.block.proofs.Laws.{neither}
 use Rattle.plan.specs.declared.Plan.{Plan}
 use Rattle.plan.specs.Tests.{firstBroken, anyOf, Unbroken}
 use Rattle.plan.specs.Plan.{componentAt, componentsOf, entriesOf}
-use Rattle.plan.specs.Rules.{rule3, badCount, rule4, badTotal, badAlone, badInterval, badIntervals, badSum, badEntry, rule9, badNaming, rule10, rule11, rules, Counted, Sized}
+use Rattle.plan.specs.Rules.{rule3, badCount, rule4, badTotal, badAlone, after, badInterval, badIntervals, badSum, badEntry, rule9, badNaming, rule10, rule11, rules, Counted, Sized}
 use Rattle.plan.specs.Valid.{Known, names, joins, Valid}
 use Rattle.plan.proofs.Tests.{every-failed, any-below, any-map, within}
 use Rattle.plan.proofs.Numbers.{no-number}
@@ -57,6 +58,58 @@ module _ (c : Component) (j : ℕ) (e : badInterval c j ≡ false) where
 kept : (c : Component) → badIntervals c ≡ false → Every (λ j. badInterval c j ≡ false) (countFrom 0 (c .count))
 kept c h = every-failed (badInterval c) (countFrom 0 (c .count)) (λ j e. e) h
 
+-- The intervals ascend, so that none stands twice: as one number, low and high rise from place to place.
+abbrev key : ℕ → ℕ → ℕ
+key low high = suc topSpeed * low + high
+
+rises : (f g : Focal) → f .high ≤ topSpeed → after f g ≡ true → key (f .low) (f .high) < key (g .low) (g .high)
+rises f g h e = go (ltb (f .low) (g .low)) refl (eqb (f .low) (g .low)) refl (ltb (f .high) (g .high)) refl e
+  where
+    go : (x : Bool) → ltb (f .low) (g .low) ≡ x → (y : Bool) → eqb (f .low) (g .low) ≡ y → (z : Bool) → ltb (f .high) (g .high) ≡ z
+        → (x || y && z) ≡ true → key (f .low) (f .high) < key (g .low) (g .high)
+    go true p y q z r w = omega (arith, ltb-true (f .low) (g .low) p)
+    go false p true q true r w = omega (arith, eqb-true (f .low) (g .low) q, ltb-true (f .high) (g .high) r)
+    go false p true q false r w = absurd (false≢true w)
+    go false p false q z r w = absurd (false≢true w)
+
+module _ (c : Component) where
+  next-rises : (i : ℕ) → badInterval c i ≡ false → badInterval c (suc i) ≡ false
+      → key (focalAt c i .low) (focalAt c i .high) < key (focalAt c (suc i) .low) (focalAt c (suc i) .high)
+  next-rises i e h =
+      let p : suc i - 1 ≡ i = omega arith in
+      let n : not (after (focalAt c (suc i - 1)) (focalAt c (suc i))) ≡ false =
+      rw (lt-ltb 0 (suc i) (omega arith)) at (neither (badAlone (focalAt c (suc i))) _ h .1) in
+      rises (focalAt c i) (focalAt c (suc i)) (in-range c i e .below) (not-false _ (rw p at n))
+
+  module _ (a b : ℕ) where
+    -- How often the interval from a to b stands at the n places from i on.
+    abbrev times : ℕ → ℕ → ℕ
+    times i n = timesAt a b (map (focalAt c) (countFrom i n))
+
+    none-behind : (i n : ℕ) → badInterval c i ≡ false → key a b ≤ key (focalAt c i .low) (focalAt c i .high)
+        → Every (λ j. badInterval c j ≡ false) (countFrom (suc i) n) → times (suc i) n ≡ 0
+    none-behind i zero e h r = refl
+    none-behind i (suc n) e h (more k r) =
+        let l = next-rises i e k in
+        go (compared a b (focalAt c (suc i))) (none-behind (suc i) n k (omega arith) r) l
+      where
+        go : {t : Bool} → Compared a b (focalAt c (suc i)) t → times (suc (suc i)) n ≡ 0
+            → key (focalAt c i .low) (focalAt c i .high) < key (focalAt c (suc i) .low) (focalAt c (suc i) .high)
+            → cond t 1 0 + times (suc (suc i)) n ≡ 0
+        go (same p q) z l = absurd (omega arith)
+        go (apart p) z l = omega arith
+
+    once-from : (i n : ℕ) → Every (λ j. badInterval c j ≡ false) (countFrom i n) → times i n ≤ 1
+    once-from i zero r = omega arith
+    once-from i (suc n) (more k r) = go (compared a b (focalAt c i)) (once-from (suc i) n r)
+      where
+        go : {t : Bool} → Compared a b (focalAt c i) t → times (suc i) n ≤ 1 → cond t 1 0 + times (suc i) n ≤ 1
+        go (same p q) h = omega (arith, none-behind i n k (omega arith) r)
+        go (apart p) h = omega arith
+
+  distinct-listed : badIntervals c ≡ false → Distinct (listed c)
+  distinct-listed h a b = once-from a b 0 (c .count) (kept c h)
+
 -- Rules 9 and 10: no entry names a component that is not there, and each that is there is named once.
 none-above : {n : ℕ} {es : List Entry} (i : ℕ) → n ≤ i → Every (Known n) es → countOf i (named es) ≡ 0
 none-above i h none = refl
@@ -72,8 +125,8 @@ named-once n es k e i = elim (decLt i n) [
 in-range-all : (c : Component) → badIntervals c ≡ false → Every InRange (listed c)
 in-range-all c h = every-image (focalAt c) (in-range c) (kept c h)
 
-sum-is : (c : Component) → badSum c ≡ false → weights (listed c) ≡ c .total
-sum-is c h = eqb-true _ _ (not-false _ h)
+sum-most : (c : Component) → badSum c ≡ false → weights (listed c) ≤ c .total
+sum-most c h = ltb-false (c .total) (weights (listed c)) h
 
 pub valid : (p : Plan) → rule3 (p .count) ≡ false → rule4 (componentsOf p) ≡ false → firstBroken (rules p) ≡ 0 → Valid p
 unfolding rule4 rule9 rule10 rule11
@@ -93,10 +146,11 @@ valid p e₃ e₄ e = go (no-number 11 (rules p) refl e)
           counts = every-failed badCount cs (λ c. within 1 mostHeld (c .count)) e₄;
           totals = every-failed badTotal cs (λ c. within 1 mostTotal (c .total)) e₆;
           listedInRange = every-failed badIntervals cs in-range-all e₇;
-          atMost = every-failed badSum cs (λ c h. omega (arith, sum-is c h)) e₈;
+          atMost = every-failed badSum cs sum-most e₈;
           inRange = every-failed badIntervals cs (λ c h. range-masses c (in-range-all c h)) e₇;
           positive = every-failed badIntervals cs (λ c h. positive-masses c (every-image (focalAt c) (weight-above c) (kept c h))) e₇;
-          balanced = every-failed badSum cs (λ c h. balanced-masses c (sum-is c h)) e₈;
+          distinct = every-failed badIntervals cs (λ c h. distinct-masses c (distinct-listed c h)) e₇;
+          balanced = every-failed badSum cs (λ c h. balanced-masses c (sum-most c h)) e₈;
           known = known;
           namedOnce = named-once (p .count) es known e₁₀;
           findTwo = not-false _ e₁₁;

@@ -47,9 +47,9 @@ badInterval c j = badAlone (focalAt c j) || ltb 0 j && not (after (focalAt c (j 
 abbrev pub badIntervals : Component → Bool
 badIntervals c = anyOf (badInterval c) (countFrom 0 (c .count))
 
--- 8. A component's weights do not add to T.
+-- 8. A component's weights exceed T.
 abbrev pub badSum : Component → Bool
-badSum c = not (eqb (weights (listed c)) (c .total))
+badSum c = ltb (c .total) (weights (listed c))
 
 -- 9. An entry is 6, 7 or above 10, or names a component not below n. Every entry but the joins 8, 9 and 10 names a component, and there is
 -- no component with a number from 6 on.

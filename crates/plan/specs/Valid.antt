@@ -1,10 +1,10 @@
--- What a plan that keeps the rules 3, 4 and 6 to 11 has: all that the drive calculation asks of it. Assumes nothing.
+-- What a plan that keeps the rules 3, 4 and 6 to 11 has: all that the drive calculation and the demands ask of it. Assumes nothing.
 use Prim.Native.Nat.{ℕ, _+_, _*_, _≤_, _<_}
 use mathlib.Core.Path.{_≡_}
 use mathlib.Core.Bool.{true}
 use lib.ListN.{length}
 use Rattle.theory.specs.Sums.{Every}
-use Rattle.theory.specs.Masses.{AllInRange, AllPositive, Balanced}
+use Rattle.theory.specs.Masses.{AllInRange, AllPositive, AllDistinct, Balanced}
 use Rattle.theory.specs.Focal.{listed, weights, InRange}
 use Rattle.theory.specs.Limits.{mostHeld, mostTotal, mostComponents}
 use Rattle.theory.specs.Structure.{joinsFindTwo, NamedOnce}
@@ -28,6 +28,7 @@ pub record Valid (p : Plan) : Type 0 where
   pub atMost : Every (λ c. weights (listed c) ≤ c .total) (componentsOf p)
   pub inRange : AllInRange (componentsOf p)
   pub positive : AllPositive (componentsOf p)
+  pub distinct : AllDistinct (componentsOf p)
   pub balanced : Balanced (componentsOf p)
   pub known : Every (Known (p .count)) (entriesOf p)
   pub namedOnce : NamedOnce (p .count) (entriesOf p)

@@ -163,7 +163,7 @@ fn bad_sum(c: Component) -> bool
     for j in 0..k {
         sum += numbers::widened(c.weights[j]);
     }
-    sum != numbers::widened(c.total)
+    numbers::widened(c.total) < sum
 }
 
 // Which of the rules 6, 7 and 8 are broken.

@@ -3,7 +3,7 @@ use Prim.Native.Nat.{ℕ, _+_, _*_, _≤_, Ordering, Ordering·lt, Ordering·eq,
 use mathlib.Core.Path.{_≡_, refl, sym, ap, ap₂, _∙_}
 use mathlib.Core.Bool.{Bool, true, false, cond, _&&_}
 use mathlib.Core.List.{List, [], _∷_}
-use native.Mathlib.Nat.{le-refl, le-trans, add-mul, mul-one}
+use native.Mathlib.Nat.{le-refl, le-trans, add-mul}
 use native.Mathlib.Omega.{arith}
 use lib.Dec.{leb, eqb}
 use borrow.Author.Tests.{eq-eqb, leb-true, le-leb}
@@ -111,8 +111,12 @@ weights-weigh = where-weigh (λ low high. true)
 pub weights-collect : (fs : List Focal) → weights (collect fs) ≡ weights fs
 weights-collect = where-collect (λ low high. true)
 
+pub where-insert : (test : ℕ → ℕ → Bool) (f : Focal) (gs : List Focal)
+    → weightWhere test (inserted f gs) ≡ cond (test (f .low) (f .high)) (f .weight) 0 + weightWhere test gs
+where-insert test f gs = where-weigh test (inserted f gs) ∙ (weigh-insert (λ a b. cond (test a b) 1 0) f gs ∙ sym (where-weigh test (f ∷ gs)))
+
 pub weights-insert : (f : Focal) (gs : List Focal) → weights (inserted f gs) ≡ f .weight + weights gs
-weights-insert f gs = rw (weights-weigh (inserted f gs), weights-weigh gs) (weigh-insert (λ a b. 1) f gs ∙ ap (_+ weigh (λ a b. 1) gs) (mul-one (f .weight)))
+weights-insert = where-insert (λ low high. true)
 
 -- A list in order, with no weight 0, is determined by its weights.
 at-self : (f : Focal) (fs : List Focal) → weightAt (f .low) (f .high) (f ∷ fs) ≡ f .weight + weightAt (f .low) (f .high) fs

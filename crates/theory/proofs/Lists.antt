@@ -48,7 +48,7 @@ commute-before f g b (h ∷ l) = go (placed f h) (commute-before f g b l)
         let d : Before h g = before-trans h f g c b in
         rw (insert-after g h d l, insert-after f h c (inserted g l), insert-after g h d (inserted f l)) (ap (h ∷_) r)
 
-insert-merged : (f g : Focal) → f .low ≡ g .low → f .high ≡ g .high → (l : List Focal) → inserted f (inserted g l) ≡ inserted (merged f g) l
+pub insert-merged : (f g : Focal) → f .low ≡ g .low → f .high ≡ g .high → (l : List Focal) → inserted f (inserted g l) ≡ inserted (merged f g) l
 insert-merged f g p q [] = insert-same f g p q []
 insert-merged f g p q (h ∷ l) = go (placed g h) (insert-merged f g p q l)
   where

@@ -1,6 +1,8 @@
 -- "Words": speeds, intervals with their weights, and what a sheet lists of a component. Assumes nothing.
 use Prim.Native.Nat.{ℕ, _≤_, _<_}
+use mathlib.Core.Bool.{Bool, _&&_}
 use mathlib.Core.List.{List, map}
+use lib.Dec.{eqb}
 use lib.ListN.{getD}
 use Rattle.theory.specs.Limits.{topSpeed}
 use Rattle.theory.specs.Sums.{sumBy, countFrom}
@@ -23,6 +25,10 @@ noFocal = focal 0 0 0
 abbrev pub Inside : Focal → ℕ → Type 0
 Inside f s = (f .low ≤ s) × (s ≤ f .high)
 
+-- It is the interval from a to b.
+abbrev pub hasEnds : ℕ → ℕ → Focal → Bool
+hasEnds a b f = eqb a (f .low) && eqb b (f .high)
+
 -- The interval at place i of a component.
 abbrev pub focalAt : Component → ℕ → Focal
 focalAt c i = focal (getD (c .lows) i 0) (getD (c .highs) i 0) (getD (c .weights) i 0)
@@ -40,7 +46,7 @@ pub record UpTo (top : ℕ) (f : Focal) : Type 0 where
   pub low-high : f .low ≤ f .high
   pub below : f .high ≤ top
 
--- What numbers 7 and 8 leave of an accepted sheet's intervals: low at most high, speeds in range, no weight 0.
+-- What number 7 leaves of an accepted sheet's intervals: low at most high, speeds in range, no weight 0.
 abbrev pub InRange : Focal → Type 0
 InRange = UpTo topSpeed
 

@@ -1,5 +1,5 @@
 -- The limits of documents 01 and 02, each number once; the constants of src/lib.rt are the same. Assumes nothing.
-use Prim.Native.Nat.{ℕ, _-_, _*_}
+use Prim.Native.Nat.{ℕ, _+_, _-_, _*_}
 
 -- The highest speed of a component, in millimetres a second; the lowest is 0.
 abbrev pub topSpeed : ℕ
@@ -12,9 +12,9 @@ mostHeld = 8
 abbrev pub mostTotal : ℕ
 mostTotal = 1000
 
--- The most focal elements of a component's mass assignment.
+-- The most focal elements of a component's mass assignment: those listed, and the rest.
 abbrev pub mostMasses : ℕ
-mostMasses = mostHeld
+mostMasses = mostHeld + 1
 
 -- The most components of a drive (n).
 abbrev pub mostComponents : ℕ

@@ -26,7 +26,8 @@ pub const THOUSANDTHS: u64 = 1000;
 
 pub const MOST_DEMANDS: usize = 16;
 
-// A module: up to eight intervals of speed with their weights, the first `count` places in use, and its total T.
+// A module: up to eight intervals of speed with their weights, the first `count` places in use, and its total T. What the weights leave of T
+// is the rest: specs/Masses.antt.
 pub struct Component {
     pub lows: [u16; MOST_HELD],
     pub highs: [u16; MOST_HELD],

@@ -48,12 +48,12 @@ module _ (c : tie.After-first) where
       subst (λ (q : Plan). Runnable q store) (sym plan-is) (ready sheet store (number-passed sheet (length store) (start .args .own) (sym number-is ∙ z)))
 
 -- Past the run.
-finished : (c : tie.After-run-plan) → let a = c .before .before .before .before in
+finished : (c : tie.After-run-plan) → let a = c .before .before .before .before .before in
     Finished (sheet a) (start a .args .own) (start a .args .allowance) (store a) (c .run-plan .result) (c .run-plan .last .1 .1 .0)
 finished c =
-    let a = c .before .before .before .before in
+    let a = c .before .before .before .before .before in
     let s = start a in
-    finish (sheet a) (s .args .own) (s .args .allowance) (store a) (sym (number-is a) ∙ c .before .before .before .if1 .left)
+    finish (sheet a) (s .args .own) (s .args .allowance) (store a) (sym (number-is a) ∙ c .before .before .before .before .if1 .left)
     (c .run-plan .result) (c .run-plan .last .1 .1 .0)
     (c .run-plan .ensures .0 ∙ ap (λ (q : Plan). ranOf (walked q (s .args .allowance))) (plan-is a))
     (c .run-plan .ensures .1 ∙ ap (λ (q : Plan). storeOf (needed q) (walked q (s .args .allowance)) (store a)) (plan-is a))
@@ -66,7 +66,7 @@ returns c =
     (c .refuse .ensures ∙ call .0, call .1)
 
 run-plan-requires : tie.Need-run-plan-requires
-run-plan-requires c κs = ready-plan (c .before .before .before) (c .before .before .if1 .left)
+run-plan-requires c κs = ready-plan (c .before .before .before .before) (c .before .before .before .if1 .left)
 
 returns-2 : tie.Need-returns-2
 returns-2 c =
@@ -74,20 +74,18 @@ returns-2 c =
     (c .refuse2 .ensures ∙ finished r .refuses (c .before .if2 .taken), finished r .stored)
 
 total-of-requires : tie.Need-total-of-requires
-total-of-requires c κs =
-    let e = c .before .before .before .before .before .before .before in
-    ready-plan (e .before) (e .if1 .left) .valid
+total-of-requires c κs = ready-plan (c .before .before) (c .before .if1 .left) .valid
 
 returns-3 : tie.Need-returns-3
 returns-3 c =
-    let r = c .before .before .before .before .before in
-    let a = r .before .before .before .before in (
-      finished r .accepts (c .before .if2 .left) (c .total-of .result) (c .total-of .ensures ∙ ap (λ (q : Plan). total (componentsOf q)) (plan-is a)),
+    let r = c .before .before .before .before in
+    let t = r .before .before in (
+      finished r .accepts (c .if2 .left) (t .total-of .result) (t .total-of .ensures ∙ ap (λ (q : Plan). total (componentsOf q)) (plan-is (t .before .before .before))),
       finished r .stored,
     )
 
 pub run-sheet-spec : {M : Type 1} → statement M
 run-sheet-spec =
     tie.close
-    (tie.spec (λ c κs. search needs) (λ c κs. search needs) (λ c κs. search needs) returns run-plan-requires (λ c κs. search needs)
-    (λ c. search needs) returns-2 total-of-requires (λ c. search needs) returns-3)
+    (tie.spec (λ c κs. search needs) (λ c κs. search needs) (λ c κs. search needs) returns total-of-requires run-plan-requires (λ c κs. search needs)
+    (λ c. search needs) returns-2 (λ c. search needs) returns-3)

@@ -15,8 +15,8 @@ returns : tie.Need-returns
 returns c =
     let p = c .before .before in
     let a = p .before .before .before .args in (
-      p .put-listed .ensures .0,
-      rest-lent (a .store .now) (a .free) _ _ (p .put-listed .ensures .1 .0 ∙ ap (λ (l : List ℕ). holding l (collect (masses (a .c)))) (part-rest (a .store .now) (a .free))),
+      p .put-masses .ensures .0,
+      rest-lent (a .store .now) (a .free) _ _ (p .put-masses .ensures .1 ∙ ap (λ (l : List ℕ). holding l (collect (masses (a .c)))) (part-rest (a .store .now) (a .free))),
     )
 
 pub put-in-store-spec : {M : Type 1} → statement M

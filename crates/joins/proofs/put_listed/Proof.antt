@@ -1,13 +1,14 @@
--- `joins::put_listed` meets its contract. The invariant: out holds the list of the first i intervals. Assumes nothing.
+-- `joins::put_listed` meets its contract. The invariant: out holds the list of the first i intervals, and `rest` is what their weights leave of T. Assumes nothing.
 use mathlib.Core.Path.{_≡_, _∙_, subst}
 use mathlib.Core.List.{List}
 use Prim.Native.Nat.{ℕ, _≤_, _<_, _+_, _*_, _-_, _^_}
 use native.Mathlib.Omega.{arith}
 use borrow.Author.Needs.{needs}
-use Rattle.theory.specs.Focal.{Focal, focalAt, weights}
+use Rattle.theory.specs.Focal.{Focal, focalAt, listed, weights}
 use Rattle.theory.specs.declared.Component.{Component}
-use Rattle.theory.specs.Order.{inserted}
-use Rattle.theory.proofs.Collect.{weights-insert}
+use Rattle.theory.specs.Masses.{rest}
+use Rattle.theory.specs.Order.{inserted, collect}
+use Rattle.theory.proofs.Collect.{weights-insert, weights-collect}
 use Rattle.records.specs.Records.{Under, speedLimit, keyOf, keyed}
 use Rattle.records.proofs.Records.{from-key}
 use Rattle.joins.proofs.Holding.{Held, held-none, length-now, insertable, held-count, held-step}
@@ -20,14 +21,15 @@ abbrev parts : List ℕ → List ℕ → List ℕ → ℕ → Component
 parts lows highs weights count = record { lows = lows; highs = highs; weights = weights; count = count; total = 0 }
 
 abbrev Inv-loop : tie.InvT-loop
-Inv-loop out₀ lows highs weights₀ count m₀ i₀ out m i =
-    (i ≤ count) × ((weights (collected (parts lows highs weights₀ count) i) ≤ 65535 * i) × Held out₀ out m (collected (parts lows highs weights₀ count) i))
+Inv-loop out₀ lows highs weights₀ count m₀ rest₀ i₀ out m rest i =
+    let l : List Focal = collected (parts lows highs weights₀ count) i in
+    (i ≤ count) × (((weights l ≤ 65535 * i) × (rest ≡ rest₀ - weights l)) × Held out₀ out m l)
 
 abbrev μ-loop : tie.MeasureT-loop
-μ-loop out₀ lows highs weights count m₀ i₀ out m i = count - i
+μ-loop out₀ lows highs weights₀ count m₀ rest₀ i₀ out m rest i = count - i
 
 abbrev start : tie.In-loop Inv-loop μ-loop → tie.Start Inv-loop μ-loop
-start c = c .before .before .before .before .before .before
+start c = c .before .before .before .before .before .before .before
 
 -- The list so far, and the interval of this turn.
 abbrev so-far : tie.In-loop Inv-loop μ-loop → List Focal
@@ -36,48 +38,51 @@ so-far c = collected (start c .args .c) (c .before .loop .i)
 abbrev this : tie.In-loop Inv-loop μ-loop → Focal
 this c = focalAt (start c .args .c) (c .before .loop .i)
 
-abbrev turn-of : tie.After-widened3 Inv-loop μ-loop → tie.In-loop Inv-loop μ-loop
-turn-of c = c .before .before .before .before
+abbrev turn-of : tie.After-widened4 Inv-loop μ-loop → tie.In-loop Inv-loop μ-loop
+turn-of c = c .before .before .before
 
-abbrev made : tie.After-widened3 Inv-loop μ-loop → Focal
-made c = record { low = c .before .before .before .widened .result; high = c .before .before .widened2 .result; weight = c .widened3 .result }
+abbrev made : tie.After-widened4 Inv-loop μ-loop → Focal
+made c = record { low = c .before .before .widened2 .result; high = c .before .widened3 .result; weight = c .widened4 .result }
 
-made-is : (c : tie.After-widened3 Inv-loop μ-loop) → made c ≡ this (turn-of c)
-made-is c = λ i. record { low = c .before .before .before .widened .ensures .0 i; high = c .before .before .widened2 .ensures .0 i; weight = c .widened3 .ensures .0 i }
+made-is : (c : tie.After-widened4 Inv-loop μ-loop) → made c ≡ this (turn-of c)
+made-is c = λ i. record { low = c .before .before .widened2 .ensures .0 i; high = c .before .widened3 .ensures .0 i; weight = c .widened4 .ensures .0 i }
 
-this-under : (c : tie.After-widened3 Inv-loop μ-loop) → Under speedLimit (this (turn-of c))
-this-under c = subst (Under speedLimit) (made-is c) (c .before .before .before .widened .ensures .1, c .before .before .widened2 .ensures .1)
+this-under : (c : tie.After-widened4 Inv-loop μ-loop) → Under speedLimit (this (turn-of c))
+this-under c = subst (Under speedLimit) (made-is c) (c .before .before .widened2 .ensures .1, c .before .widened3 .ensures .1)
 
-weight-small : (c : tie.After-widened3 Inv-loop μ-loop) → this (turn-of c) .weight ≤ 65535
-weight-small c = omega (arith, c .widened3 .ensures)
+weight-small : (c : tie.After-widened4 Inv-loop μ-loop) → this (turn-of c) .weight ≤ 65535
+weight-small c = omega (arith, c .widened4 .ensures)
 
-fits : (c : tie.After-widened3 Inv-loop μ-loop) → weights (so-far (turn-of c)) + this (turn-of c) .weight < 2 ^ 64
+fits : (c : tie.After-widened4 Inv-loop μ-loop) → weights (so-far (turn-of c)) + this (turn-of c) .weight < 2 ^ 64
 fits c = let i = turn-of c in omega (arith, weight-small c, i .before .loop .inv, i .loop-test .taken, start i .pre)
 
-given : (c : tie.After-widened3 Inv-loop μ-loop) → keyed (keyOf (made c)) (made c .weight) ≡ this (turn-of c)
-given c = from-key (made c) (c .before .before .widened2 .ensures .1) ∙ made-is c
+given : (c : tie.After-widened4 Inv-loop μ-loop) → keyed (keyOf (made c)) (made c .weight) ≡ this (turn-of c)
+given c = from-key (made c) (c .before .widened3 .ensures .1) ∙ made-is c
 
 loop-holds : tie.Need-loop-holds Inv-loop μ-loop
 loop-holds c =
-    let s = c .before .before .before .before in
-    (omega arith, (omega arith, held-none (s .args .out .now) (λ i. c .before .before .before .slice-known .given i .fits) (s .pre .1)))
+    let k = c .before .before .before .before in
+    (omega arith, ((omega arith, omega arith), held-none (k .before .args .out .now) (λ i. k .slice-known .given i .fits) (k .before .pre .1)))
 
 insert-requires : tie.Need-insert-requires Inv-loop μ-loop
 insert-requires c κs =
-    let i = turn-of c in
-    insertable (i .before .loop .inv .1 .1) (c .widened3 .result) (omega (arith, fits c, c .widened3 .ensures))
+    let i = turn-of (c .before) in
+    insertable (i .before .loop .inv .1 .1) (c .before .widened4 .result) (omega (arith, fits (c .before), c .before .widened4 .ensures))
 
 loop-again : tie.Need-loop-again Inv-loop μ-loop
 loop-again c =
-    let n = c .before .before in
-    let w = n .before in
+    let n = c .before .before .before in
+    let w = n .before .before in
     let i = turn-of w in
     let k : Component = start i .args .c in
     let e : collected k (i .before .loop .i + 1) ≡ inserted (this i) (so-far i) = collected-next k (i .before .loop .i) in
     let h : Held _ (i .before .loop .out) (i .before .loop .m) (so-far i) = i .before .loop .inv .1 .1 in (
       omega (arith, i .loop-test .taken),
       (
-        rw e (omega (arith, weights-insert (this i) (so-far i), weight-small w, i .before .loop .inv)),
+        (
+          rw e (omega (arith, weights-insert (this i) (so-far i), weight-small w, i .before .loop .inv)),
+          rw e (omega (arith, weights-insert (this i) (so-far i), w .widened4 .ensures, c .left-of .ensures, i .before .loop .inv)),
+        ),
         rw e
             (held-step h (this-under w) (fits w) (given w) (n .insert .ensures)
             (rw (held-count h (this-under w) (fits w) (given w) (n .insert .ensures), ← e) (omega (arith, collected-short k (i .before .loop .i + 1), i .loop-test .taken, start i .pre)))),
@@ -86,10 +91,15 @@ loop-again c =
 
 returns : tie.Need-returns Inv-loop μ-loop
 returns c =
-    let s = c .before .before .before .before .before .before in
-    let e : c .before .loop .i ≡ s .args .c .count = omega arith in
-    let h : Held (s .args .out .now) (c .before .loop .out) (c .before .loop .m) (collected (s .args .c) (s .args .c .count)) = rw e at (c .before .loop .inv .1 .1) in
-    (h .count, (h .bytes, (h .under, h .sum)))
+    let t = c .before .before in
+    let s = t .before .before .before .before .before in
+    let k : Component = s .args .c in
+    let e : c .before .loop .i ≡ k .count = omega arith in
+    let h : Held (s .args .out .now) (c .before .loop .out) (c .before .loop .m) (collect (listed k)) = rw e at (c .before .loop .inv .1 .1) in
+    let w : weights (collect (listed k)) ≤ 65535 * k .count = rw e at (c .before .loop .inv .1 .0 .0) in
+    let r : c .before .loop .rest ≡ t .widened .result - weights (collect (listed k)) = rw e at (c .before .loop .inv .1 .0 .1) in
+    let q : c .before .loop .rest ≡ rest k = omega (arith, weights-collect (listed k), t .widened .ensures) in
+    (λ j. record { count = h .count j; rest = q j }, (h .bytes, (h .under, omega (arith, t .widened .ensures, s .pre))))
 
 pub put-listed-spec : {M : Type 1} → statement M
 put-listed-spec =
@@ -97,21 +107,23 @@ put-listed-spec =
     (tie.spec
     Inv-loop
     μ-loop
+    (λ c κs. search needs)
     loop-holds
     (λ c. search needs)
     (λ c. search needs)
     (λ c κs. search needs)
-    (λ c. omega (arith, c .widened .ensures))
+    (λ c. omega (arith, c .widened2 .ensures))
     (λ c. search needs)
     (λ c. search needs)
     (λ c κs. search needs)
-    (λ c. omega (arith, c .before .widened .ensures, c .widened2 .ensures))
+    (λ c. omega (arith, c .before .widened2 .ensures, c .widened3 .ensures))
     (λ c. search needs)
     (λ c. search needs)
     (λ c κs. search needs)
     insert-requires
-    (λ c. omega (arith, turn-of (c .before .before .before) .loop-test .taken))
-    (λ c. omega (arith, turn-of (c .before .before .before) .loop-test .taken))
+    (λ c κs. search needs)
+    (λ c. omega (arith, turn-of (c .before .before .before .before .before) .loop-test .taken))
+    (λ c. omega (arith, turn-of (c .before .before .before .before .before) .loop-test .taken))
     loop-again
     (λ c. length-now (c .before .loop .inv .1 .1))
     returns)
