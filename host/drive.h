@@ -1,13 +1,15 @@
 /* drive.h - for what share of the time does a powered chair's drive reach a speed? For C (C11) and C++ (C++11) programs.
  *
  * A chair's maker knows each module of the drive by a log: for so many of its hours the module ran somewhere between two speeds.
- * A plan says this of up to six modules and how they are joined; a sheet is the same packed into at most 224 bytes, to be stored
- * or sent. A call takes a sheet, a demand (a speed) and an allowance (of work), and answers two whole-number shares of one total:
+ * In hours that nobody accounted for it may have run at any speed; they count so. A plan says this of up to six modules and how
+ * they are joined; a sheet is the same packed into at most 224 bytes, to be stored or sent. A call takes a sheet, a demand (a
+ * speed) and an allowance (of work), and answers two whole-number shares of one total:
  *   belief         the share of time at or above the demand that the logs vouch for;
  *   plausibility   the share that nothing in the logs rules out.
- * Both are exact. Wherever inside the logged intervals the modules ran, the true share lies between the two, as long as the modules
- * are independent of each other (see "From logs to a plan"). drive_set answers the same for up to sixteen demands at once. Another
- * call, drive_speed, starts from a share of the time and answers the greatest speed that the logs vouch for at that share.
+ * Both are exact. Wherever inside the logged intervals the modules ran, and at whatever speeds in the hours that nobody accounted
+ * for, the true share lies between the two, as long as the modules are independent of each other (see "From logs to a plan").
+ * drive_set answers the same for up to sixteen demands at once. Another call, drive_speed, starts from a share of the time and
+ * answers the greatest speed that the logs vouch for at that share.
  *
  * Link libdrive.a or libdrive.so (x86-64 Linux, System V calling convention):
  *   cc -Ihost program.c target/staticlib/libdrive.a     (in the repository, after rt staticlib drive)
@@ -47,7 +49,10 @@
  *              higher, since shared joins add.
  *   interval   a low and a high speed, both inside it. Low may equal high; intervals may overlap.
  *   weight     a module has a total T from 1 to 1,000. The weight of an interval over T is the share of time of which is known
- *              only that the speed lies in that interval. A module's weights add to its T.
+ *              only that the speed lies in that interval. A module's weights add to its T or to less.
+ *   rest       what a module's weights leave of its T, hours that nobody accounted for: it counts as the weight of an interval from 0
+ *              to 4,095, or is added to that interval's weight where the module has it already. A module's list has up to eight
+ *              intervals and the rest. Plans and sheets hold what was logged, and T: the rest follows from them.
  *   total      the product of all T, at most 10^18. Belief, plausibility and the weights of the drive's list are shares of it.
  *   join       takes two lists of intervals. Every interval of one meets every interval of the other: weights are multiplied,
  *              lows and highs are joined separately, and equal intervals become one, their weights added.
@@ -67,10 +72,20 @@
  *                lower belief and raise plausibility: the bounds get wider and stay true. The other way round they may become false.
  *   Rounding     Numbers are whole. Round lows down, highs, demands and targets up, and an answered speed down where it is printed
  *                in other units. C cuts fractions off, and a 64-bit demand to 32 bits, without a word unless -Wconversion is on.
- *   Long logs    A log of more than 1,000 units is scaled, and the weights still have to add to T. Round the scaled weight of each
- *                interval down, leave out those that become 0, and give all lost units to one interval that encloses every interval
- *                of the log, at worst 0 to 4,095. It is one of the eight; where the log has it already, add to its weight. Never
- *                round a weight up, or to the nearest. host/example_table.c does it.
+ *   Gaps         T counts all hours, those too that nobody accounted for: 940 hours logged of 1,000 are weights that add to 940,
+ *                and T 1,000. At a demand above 0 the rest by itself never adds to belief, and up to 4,095 it adds to
+ *                plausibility. A T of 940 in place of 1,000 would say that the module ran in those hours as it did in the others.
+ *                Where something is known of them, as that the module never runs faster than 1,400, an interval from 0 to 1,400
+ *                gives closer bounds. A module has at least one interval: one of which nothing is known has 0 to 4,095 with weight
+ *                T. An interval that is forgotten, a weight that is typed too small or a T that is typed too great is no refusal:
+ *                it leaves a rest. Where a log is meant to be whole, see that drive_plan_rest is 0 (of a sheet, after
+ *                drive_read_sheet).
+ *   Long logs    A log of more than 1,000 units is scaled: each weight times T over all units of the log, rounded down; those that
+ *                become 0 are left out. What that loses is part of the rest. Bounds are closer if what rounding lost goes to one
+ *                interval that encloses every interval of the log (one of the eight; where the log has it already, add to its
+ *                weight), as in host/example_table.c, whose logs have no gaps. Where a log has gaps, rounding lost this much: the
+ *                logged units times T over all units, rounded down, less the scaled weights. All else stays rest. Never round a
+ *                weight up, or to the nearest.
  *   Independence One battery behind two drivers breaks it: they slow down together, and the bounds are then not those of the chair.
  *                Put a common cause into the plan once, as a module of its own in series with what depends on it, and log the
  *                others without its effect.
@@ -87,15 +102,16 @@
 extern "C" {
 #endif
 
-/* The version of this header and of the library that it came with. The soname has the first number. */
-#define DRIVE_VERSION_MAJOR 1
-#define DRIVE_VERSION_MINOR 2
+/* The version of this header and of the library that it came with. The soname has the first number. Since 1.2.0: weights that add to
+ * less than T leave a rest, and are no longer number 8; DRIVE_PAIRS_MAX was 66,688; drive_plan_rest is new. */
+#define DRIVE_VERSION_MAJOR 2
+#define DRIVE_VERSION_MINOR 0
 #define DRIVE_VERSION_PATCH 0
-#define DRIVE_VERSION "1.2.0"
+#define DRIVE_VERSION "2.0.0"
 
 /* The limits of a plan of edition one, and the codes of its joins. Edition two will have others. */
 #define DRIVE_MODULES_MAX 6
-#define DRIVE_MODULE_INTERVALS_MAX 8 /* of one module */
+#define DRIVE_MODULE_INTERVALS_MAX 8 /* of one module, the rest not counted */
 #define DRIVE_SPEED_MAX 4095         /* of one module */
 #define DRIVE_MODULE_TOTAL_MAX 1000  /* T */
 #define DRIVE_ENTRIES_MAX 11         /* 2n - 1 of six modules */
@@ -105,7 +121,7 @@ extern "C" {
 
 /* The limits of a run, and of what is asked. */
 #define DRIVE_LIST_INTERVALS_MAX 256 /* of a join's list */
-#define DRIVE_PAIRS_MAX 66688        /* no sheet forms more: two groups of three modules, 2 * (64 + 512) + 256 * 256 */
+#define DRIVE_PAIRS_MAX 67156        /* no sheet forms more: two groups of three modules, 2 * (81 + 729) + 256 * 256 */
 #define DRIVE_TARGET_MAX 1000        /* thousandths: all of the time */
 #define DRIVE_DEMANDS_MAX 16         /* of one call of drive_set */
 
@@ -249,6 +265,16 @@ static inline struct drive_interval drive_plan_read_interval(const uint8_t *plan
     return r;
 }
 
+/* The rest of a module: what its weights leave of its T; 0 where they leave nothing, and for a module that is not there. */
+static inline uint32_t drive_plan_rest(const uint8_t *plan, uint64_t module) {
+    uint64_t rest = drive_plan_total(plan, module);
+    for (uint64_t i = 0; i < DRIVE_MODULE_INTERVALS_MAX; i++) {
+        uint64_t weight = drive_plan_read_interval(plan, module, i).weight;
+        rest = weight < rest ? rest - weight : 0;
+    }
+    return (uint32_t)rest;
+}
+
 static inline uint32_t drive_plan_read_entry(const uint8_t *plan, uint64_t i) {
     if (i >= DRIVE_ENTRIES_MAX || i + 1 >= 2 * (uint64_t)drive_plan_modules(plan)) return 0;
     return drive_plan_get(plan, DRIVE_AT_ENTRY + i);
@@ -259,7 +285,7 @@ static inline uint32_t drive_plan_read_entry(const uint8_t *plan, uint64_t i) {
  * What the caller sees to:
  *   - Each pointer has that many bytes behind it. A pointer may be NULL where its length is 0. No alignment is asked for.
  *   - No buffer overlaps another, and nothing else writes to them during the call.
- *   - DRIVE_STACK_BYTES bytes of stack are left. Measured: up to 9,624 for drive_bounds, drive_set and drive_speed, and 2,328 for the
+ *   - DRIVE_STACK_BYTES bytes of stack are left. Measured: up to 9,640 for drive_bounds, drive_set and drive_speed, and 2,328 for the
  *     others; up to 3,184 more for the first call under lazy binding, where functions of the C library are looked up at first use.
  * No other input, whatever its bytes, can make a call fail, run on or touch other memory.
  *
@@ -380,7 +406,7 @@ uint32_t drive_speed(const uint8_t *sheet, size_t sheet_length, uint32_t target,
     X(6, DRIVE_E_TOTAL, "a module's total is not 1 to 1,000") \
     X(7, DRIVE_E_INTERVAL, \
       "an interval has low above high, a speed above 4,095 or weight 0, or does not come strictly after the one before it") \
-    X(8, DRIVE_E_WEIGHTS, "a module's weights do not add to its total") \
+    X(8, DRIVE_E_WEIGHTS, "a module's weights add to more than its total") \
     X(9, DRIVE_E_ENTRY, "an entry is missing, is 6, 7 or above 10, or names a module not below n") \
     X(10, DRIVE_E_NAMED, "a module is named twice or never") \
     X(11, DRIVE_E_JOIN, "a join finds fewer than two lists") \
@@ -528,7 +554,7 @@ static inline uint32_t drive_plausibility_hundredths(struct drive_answer a) { re
  *                           10  T: 1 to 1,000
  *                   k times 12  low
  *                           12  high, not below low
- *                           10  weight, not 0; the weights add to T
+ *                           10  weight, not 0; the weights add to T at most
  *                       0 to 6  zero, up to the next byte
  *   structure, n bytes       4  an entry, 2n - 1 times
  *                            4  zero

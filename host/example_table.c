@@ -25,7 +25,8 @@ static const struct {
     {"up a ramp", 1400},     {"over a crossing", 1600}, {"beside a road", 2200},
 };
 
-/* Adds a module. Each weight is scaled to T = 1,000 and rounded down; what that loses goes to the enclosing interval. */
+/* Adds a module. Each weight is scaled to T = 1,000 and rounded down; what that loses goes to the enclosing interval. The log has no
+ * gaps: otherwise what is left of T is not only what rounding lost. */
 static uint32_t add_module(uint8_t *plan, const struct log *log) {
     uint64_t minutes = 0, lost = DRIVE_MODULE_TOTAL_MAX;
     for (unsigned i = 0; i < log->intervals; i++) minutes += log->interval[i].weight;

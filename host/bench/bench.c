@@ -199,6 +199,13 @@ static struct plan chair(void) {
     return make_plan(5, c, entry);
 }
 
+/* The same chair where 60 of each module's units are in no interval. */
+static struct plan chair_with_rests(void) {
+    struct plan p = chair();
+    for (unsigned i = 0; i < p.components; i++) p.component[i].focal[p.component[i].count - 1].weight -= 60;
+    return p;
+}
+
 /* Two lists of x times y single speeds each, in series: the pairs of the last join grow with the product of their lengths. */
 static struct plan grown(unsigned x, unsigned y) {
     struct plan p = two_groups(1, DRIVE_ED1_SERIES);
@@ -212,9 +219,10 @@ int main(int argc, char **argv) {
     const struct bench rows[] = {
         bench_of("W, two modules", two(W0, W1, DRIVE_ED1_SERIES)),
         bench_of("chair, five modules", chair()),
+        bench_of("chair, with rests", chair_with_rests()),
         bench_of("256 intervals", three(4)),
         bench_of("128 and 128, shared", two_groups(2, DRIVE_ED1_SHARED)),
-        bench_of("widest, six modules", widest()),
+        bench_of("widest without a rest", widest()),
     };
     const struct bench growth[] = {
         bench_of("8 and 8", grown(1, 1)),   bench_of("16 and 16", grown(2, 1)),  bench_of("32 and 32", grown(4, 1)),

@@ -6,6 +6,7 @@
 enum {
     COMPONENTS = 6,
     FOCALS = 8,
+    SPEED_MAX = 4095,
     ENTRIES = 2 * COMPONENTS - 1,
     INTERVALS = 256,
     RECORD_BYTES = 12,
@@ -25,8 +26,9 @@ struct focal {
     uint64_t weight;
 };
 
+/* What is listed, and what the weights leave of the total. */
 struct component {
-    unsigned count, total;
+    unsigned count, total, rest;
     struct focal focal[FOCALS];
 };
 
@@ -75,7 +77,8 @@ static void read_component(struct bits *b, struct component *c, unsigned *fault)
         c->focal[i] = f;
         sum += weight;
     }
-    fault_if(fault, 8, sum != c->total);
+    fault_if(fault, 8, sum > c->total);
+    c->rest = c->total - sum;
     if (b->at % 8 != 0) fault_if(fault, 5, take(b, 8 - (unsigned)(b->at % 8)) != 0);
 }
 
@@ -123,8 +126,8 @@ static unsigned read_sheet(const uint8_t *sheet, size_t length, struct plan *p) 
     return fault;
 }
 
-/* Adds f to a list in ascending order; 0 where the list is full. */
-static int insert(struct list *l, struct focal f) {
+/* Adds f to a list in ascending order; 0 where the list is full. Joins spend their time here. */
+static inline int insert(struct list *l, struct focal f) {
     unsigned from = 0, to = l->count;
     while (from < to) {
         unsigned middle = (from + to) / 2;
@@ -156,6 +159,14 @@ static uint32_t join_keys(unsigned entry, uint32_t x, uint32_t y) {
     }
 }
 
+/* A component's list: what is listed, and the rest on the interval from 0 to the greatest speed. */
+static void put_leaf(const struct component *c, struct list *out) {
+    const struct focal rest = {SPEED_MAX, c->rest};
+    out->count = c->count;
+    memcpy(out->focal, c->focal, c->count * sizeof rest);
+    if (c->rest > 0) insert(out, rest);
+}
+
 /* The join of two lists; 0 where it has too many intervals. */
 static int join(unsigned entry, const struct list *x, const struct list *y, struct list *out) {
     out->count = 0;
@@ -178,10 +189,7 @@ static unsigned run(const struct plan *p, uint32_t allowance, struct list lists[
     for (unsigned i = 0; i < p->entries; i++) {
         unsigned e = p->entry[i];
         if (e < COMPONENTS) {
-            const struct component *c = &p->component[e];
-            stack[depth]->count = c->count;
-            memcpy(stack[depth]->focal, c->focal, c->count * sizeof c->focal[0]);
-            depth++;
+            put_leaf(&p->component[e], stack[depth++]);
         } else {
             struct list *x = stack[depth - 2], *out = stack[depth];
             const struct list *y = stack[depth - 1];

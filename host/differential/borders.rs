@@ -1,12 +1,12 @@
 //! The borders that a run has to meet: values at a limit and one beyond.
 
-use crate::choices::{Focal, Run, MOST};
+use crate::choices::{Focal, Run, MOST, MOST_PAIRS, WITH_REST};
 use crate::expect::{
     right_length, right_target, Asked, Question, Reply, Set, DEMAND_BYTES, LENGTH_BYTES, LIST_BYTES, MOST_DEMANDS,
     TOP_TARGET,
 };
-use crate::plan::{Plan, COMPONENTS, INTERVALS, PLAN_BYTES};
-use crate::rules::{self, TOP_SPEED, TOP_TOTAL};
+use crate::plan::{Component, Plan, COMPONENTS, INTERVALS, PLAN_BYTES};
+use crate::rules::{self, TOP_SPEED, TOP_TOTAL, WHOLE};
 use crate::sheet;
 
 macro_rules! borders {
@@ -22,8 +22,16 @@ borders! {
     Intervals257: "a join's list of 257 intervals, refused",
     AllowanceExact: "an allowance equal to the pairs",
     AllowanceLess: "an allowance one less, refused",
-    Pairs66688: "66,688 pairs",
-    Choices262144: "six components of eight intervals: 224 bytes, 262,144 choices",
+    Pairs67156: "67,156 pairs, the most",
+    Pairs81: "a join of two components with lists of nine intervals: 81 pairs",
+    Choices262144: "six components of eight intervals and no rest: 224 bytes, 262,144 choices",
+    Choices531441: "six components of eight intervals and a rest: 224 bytes, 531,441 choices",
+    RestNone: "no rest: in each component the weights add to T",
+    Rest1: "a rest of 1",
+    Rest999: "a rest of 999",
+    RestNinth: "a rest beside eight intervals",
+    RestListed: "a rest added to a listed interval from 0 to 4,095",
+    SumAbove: "weights one above T, refused",
     Total: "a total of 10^18",
     T1000: "a T of 1,000",
     T1001: "a T of 1,001, refused",
@@ -102,9 +110,13 @@ borders! {
     RoomLess: "a sheet buffer one byte shorter, refused",
     Plan: "a plan buffer of 336 bytes",
     PlanLess: "a plan buffer of 335 bytes, refused",
+    PlanSumAbove: "a plan with weights one above T, refused",
+    PlanSumLowBits: "a plan with weights whose sum's low 16 bits would be accepted, refused",
     LowBytes: "a plan that would be accepted if n, k and entries were bytes, refused",
     PlanBack: "a plan written and read back",
+    PlanBackRest: "a plan with a rest written and read back",
     SheetBack: "a sheet read and written back",
+    SheetBackRest: "a sheet with a rest read and written back",
     Null: "NULL for an empty buffer",
     SetNull: "NULL for no demands",
     SharesNull: "NULL for a shares' buffer of no bytes",
@@ -147,6 +159,7 @@ impl Borders {
         self.met(Border::T1000, number == 0 && total(TOP_TOTAL));
         self.met(Border::T1001, number == 6 && total(TOP_TOTAL + 1));
         self.met(Border::T1023, number == 6 && total(1_023));
+        self.met(Border::SumAbove, number == 8 && plan.used().iter().all(one_above));
         self.met(Border::Weight1023, number == 8 && interval(|_, _, weight| weight == 1_023));
         let (stopped, fastest) = (interval(|low, _, _| low == 0), interval(|_, high, _| high == TOP_SPEED));
         self.met(Border::Speeds, number == 0 && stopped && fastest);
@@ -258,8 +271,12 @@ impl Borders {
         }
         self.met(Border::Intervals256, joins.iter().any(|join| join.intervals == MOST));
         self.met(Border::AllowanceExact, !joins.is_empty() && run.pairs() == allowance);
-        self.met(Border::Pairs66688, run.pairs() == 66_688);
-        self.met(Border::Choices262144, run.choices == INTERVALS.pow(COMPONENTS as u32));
+        self.met(Border::Pairs67156, run.pairs() == MOST_PAIRS.into());
+        // The first join is always of two components.
+        self.met(Border::Pairs81, joins.first().is_some_and(|join| join.pairs == 81));
+        self.met(Border::Choices262144, run.choices == INTERVALS.pow(COMPONENTS as u32) && !run.plan.has_rest());
+        self.met(Border::Choices531441, run.choices == WITH_REST.pow(COMPONENTS as u32));
+        self.of_rests(&run.plan);
         self.met(Border::Total, run.total == 10u64.pow(18));
         match &question.asked {
             Asked::Demand(demand) => {
@@ -274,6 +291,17 @@ impl Borders {
             }
             Asked::Target(target) => self.of_speed(run, *target, expected.answers.first().demand),
         }
+    }
+
+    fn of_rests(&mut self, plan: &Plan) {
+        let rest = |found: fn(&Component) -> bool| {
+            plan.used().iter().any(|component| component.rest() > 0 && found(component))
+        };
+        self.met(Border::RestNone, !plan.has_rest());
+        self.met(Border::Rest1, rest(|component| component.rest() == 1));
+        self.met(Border::Rest999, rest(|component| component.rest() == 999));
+        self.met(Border::RestNinth, rest(|component| component.used().len() == INTERVALS && !lists_whole(component)));
+        self.met(Border::RestListed, rest(lists_whole));
     }
 
     /// Demands at a low, one above a low, at a high, and one above a high of the drive's list.
@@ -310,6 +338,8 @@ impl Borders {
         self.met(Border::RoomLess, number == 15 && room + 1 == needed);
         self.met(Border::Length, number == 0 && answer == LENGTH_BYTES);
         self.met(Border::LengthLess, number == 12 && answer + 1 == LENGTH_BYTES);
+        self.met(Border::PlanSumAbove, number == 8 && plan.used().iter().all(one_above));
+        self.met(Border::PlanSumLowBits, number == 8 && plan.used().iter().all(low_bits_right));
         self.met(Border::LowBytes, matches!(number, 3 | 4 | 9) && rules::of_plan(&low_bytes(plan)) == 0);
     }
 
@@ -317,6 +347,21 @@ impl Borders {
         self.met(Border::Plan, number == 0 && length == PLAN_BYTES);
         self.met(Border::PlanLess, number == 12 && length + 1 == PLAN_BYTES);
     }
+}
+
+/// Whether the block has the interval that a rest counts as.
+fn lists_whole(component: &Component) -> bool {
+    component.used().iter().any(|interval| interval.ends() == WHOLE)
+}
+
+/// Whether the weights exceed T by one at most.
+fn one_above(component: &Component) -> bool {
+    component.sum() <= u32::from(component.total) + 1
+}
+
+/// Whether a sum of 16 bits would not exceed T.
+fn low_bits_right(component: &Component) -> bool {
+    component.sum() & 65_535 <= component.total.into()
 }
 
 /// The plan with only the low bytes of n, of each k and of the entries.

@@ -1,7 +1,7 @@
 //! What a case puts to a call: a sheet or a plan, a demand, a set of them or a target, an allowance, the lengths of the
 //! buffers.
 
-use crate::choices::Run;
+use crate::choices::{Run, MOST_PAIRS};
 use crate::damage::{self, break_plan, litter, OF_PLAN, RULES_OF_PLAN};
 use crate::expect::{Asked, Question, Set, DEMAND_BYTES, LIST_BYTES, MOST_DEMANDS, SHARES_BYTES, TOP_TARGET};
 use crate::plan::Plan;
@@ -207,7 +207,7 @@ fn allowance(random: &mut Random, run: Option<&Run>) -> u32 {
         11 => 0,
         12 => random.next() as u32,
         13 => u32::MAX,
-        _ => 66_688,
+        _ => MOST_PAIRS,
     }
 }
 

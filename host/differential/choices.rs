@@ -1,14 +1,19 @@
 //! The drive's list by its definition: the sum over all choices of one interval per component, each choice evaluated
 //! through the whole structure. No list is joined with another: a join's list is enumerated from the components under
-//! it.
+//! it. A component's list has the intervals of its block and the rest.
 
-use crate::plan::{Plan, COMPONENTS, SERIES, SHARED};
-use crate::rules::TOP_SPEED;
+use crate::plan::{Component, Plan, COMPONENTS, INTERVALS, SERIES, SHARED};
+use crate::rules::{TOP_SPEED, WHOLE};
+
+/// The most intervals of a component's list: those of its block and the rest.
+pub const WITH_REST: usize = INTERVALS + 1;
 
 /// The most intervals of a join's list.
 pub const MOST: usize = 256;
 /// Beyond this many, the intervals of a join are not counted on.
 const COUNTED: usize = 2 * MOST;
+/// The most pairs: two groups of three components, each joined to 81 intervals, then to 256, and the two lists joined.
+pub const MOST_PAIRS: u32 = 2 * (81 + 729) + 256 * 256;
 /// The greatest speed that a drive can have, since shared joins add.
 const TOP_SUM: usize = COMPONENTS * TOP_SPEED as usize;
 
@@ -17,6 +22,17 @@ pub struct Focal {
     pub low: u32,
     pub high: u32,
     pub weight: u64,
+}
+
+impl Focal {
+    fn of((low, high): (u16, u16), weight: u32) -> Focal {
+        Focal { low: low.into(), high: high.into(), weight: weight.into() }
+    }
+
+    /// Low, then high, as one number.
+    fn key(&self) -> u64 {
+        u64::from(self.low) << 32 | u64::from(self.high)
+    }
 }
 
 pub struct Join {
@@ -29,6 +45,7 @@ pub struct Join {
 /// The joins in the order of the structure, up to the first with more than 256 intervals; the drive's list if there is
 /// none such.
 pub struct Run {
+    pub plan: Plan,
     pub joins: Vec<Join>,
     pub list: Vec<Focal>,
     pub total: u64,
@@ -85,20 +102,21 @@ impl Run {
 
 /// Runs a plan that keeps the rules.
 pub fn run(plan: &Plan) -> Run {
+    let components: Vec<Vec<Focal>> = plan.used().iter().map(of_component).collect();
     let total = plan.used().iter().map(|component| u64::from(component.total)).product();
-    let choices = plan.used().iter().map(|component| component.used().len()).product();
-    let mut run = Run { joins: Vec::new(), list: Vec::new(), total, choices };
+    let choices = components.iter().map(Vec::len).product();
+    let mut run = Run { plan: *plan, joins: Vec::new(), list: Vec::new(), total, choices };
     let structure = plan.structure();
     let mut stack: Vec<(usize, usize)> = Vec::new(); // where a sub-structure starts, and its number of intervals
     for (place, entry) in structure.iter().enumerate() {
         if *entry < SERIES {
-            run.list = list(plan, &structure[place..=place]);
+            run.list = list(&components, &structure[place..=place]);
             stack.push((place, run.list.len()));
             continue;
         }
         let (_, right) = stack.pop().expect("two lists");
         let (start, left) = stack.pop().expect("two lists");
-        run.list = list(plan, &structure[start..=place]);
+        run.list = list(&components, &structure[start..=place]);
         stack.push((start, run.list.len()));
         run.joins.push(Join { pairs: run.pairs() + (left * right) as u64, intervals: run.list.len() });
         if run.list.len() > MOST {
@@ -109,30 +127,47 @@ pub fn run(plan: &Plan) -> Run {
     run
 }
 
+/// The intervals of a component, each once: those of its block and, where the weights leave some of T, the rest.
+fn of_component(component: &Component) -> Vec<Focal> {
+    let mut list = Vec::new();
+    for interval in component.used() {
+        add(&mut list, Focal::of(interval.ends(), interval.weight.into()));
+    }
+    if component.rest() > 0 {
+        add(&mut list, Focal::of(WHOLE, component.rest()));
+    }
+    list
+}
+
+/// Puts an interval into a list, or adds its weight where the list has it already.
+#[inline]
+fn add(list: &mut Vec<Focal>, new: Focal) {
+    match list.binary_search_by_key(&new.key(), Focal::key) {
+        Ok(place) => list[place].weight += new.weight,
+        Err(place) => list.insert(place, new),
+    }
+}
+
 /// The intervals of a sub-structure in ascending order of low, then of high, each once, with the weights of all choices
 /// that give it.
-fn list(plan: &Plan, structure: &[u16]) -> Vec<Focal> {
-    let mut list: Vec<Focal> = Vec::new();
+fn list(components: &[Vec<Focal>], structure: &[u16]) -> Vec<Focal> {
+    let mut list = Vec::new();
     let under: Vec<usize> =
         structure.iter().filter(|entry| **entry < SERIES).map(|entry| usize::from(*entry)).collect();
     let mut choice = [0; COMPONENTS]; // for each component the place of its interval
     loop {
-        let outcome = evaluate(plan, structure, &choice);
-        match list.binary_search_by_key(&(outcome.low, outcome.high), |focal| (focal.low, focal.high)) {
-            Ok(place) => list[place].weight += outcome.weight,
-            Err(place) => list.insert(place, outcome),
-        }
-        if list.len() > COUNTED || !advance(plan, &under, &mut choice) {
+        add(&mut list, evaluate(components, structure, &choice));
+        if list.len() > COUNTED || !advance(components, &under, &mut choice) {
             return list;
         }
     }
 }
 
 /// The next choice of the components `under`; false after the last.
-fn advance(plan: &Plan, under: &[usize], choice: &mut [usize; COMPONENTS]) -> bool {
+fn advance(components: &[Vec<Focal>], under: &[usize], choice: &mut [usize; COMPONENTS]) -> bool {
     for component in under {
         choice[*component] += 1;
-        if choice[*component] < usize::from(plan.components[*component].count) {
+        if choice[*component] < components[*component].len() {
             return true;
         }
         choice[*component] = 0;
@@ -141,15 +176,13 @@ fn advance(plan: &Plan, under: &[usize], choice: &mut [usize; COMPONENTS]) -> bo
 }
 
 /// One choice through a structure: lows and highs are joined separately, weights are multiplied.
-fn evaluate(plan: &Plan, structure: &[u16], choice: &[usize; COMPONENTS]) -> Focal {
+fn evaluate(components: &[Vec<Focal>], structure: &[u16], choice: &[usize; COMPONENTS]) -> Focal {
     let mut stack = [Focal::default(); COMPONENTS];
     let mut height = 0;
     for entry in structure {
         if *entry < SERIES {
             let component = usize::from(*entry);
-            let interval = plan.components[component].intervals[choice[component]];
-            stack[height] =
-                Focal { low: interval.low.into(), high: interval.high.into(), weight: interval.weight.into() };
+            stack[height] = components[component][choice[component]];
             height += 1;
         } else {
             let (left, right) = (stack[height - 2], stack[height - 1]);

@@ -151,6 +151,7 @@ impl Comparison {
         let sheet = self.sheet.lent()[..length].to_vec();
         self.read(random, &sheet, 0)?;
         self.tally.borders.met(Border::PlanBack, true);
+        self.tally.borders.met(Border::PlanBackRest, plan.has_rest());
         match self.plan.lent()[..PLAN_BYTES] == plan.cleaned().bytes() {
             true => Ok(()),
             false => Err(format!("a plan that was written reads as another\n  plan {}", hex(&plan.bytes()))),
@@ -164,6 +165,7 @@ impl Comparison {
         let plan = Plan::of_bytes(self.plan.lent());
         self.write(random, &plan, 0)?;
         self.tally.borders.met(Border::SheetBack, true);
+        self.tally.borders.met(Border::SheetBackRest, plan.has_rest());
         match self.sheet.lent()[..sheet.len()] == sheet {
             true => Ok(()),
             false => Err(format!("a sheet that was read is written as another\n  sheet {}", hex(&sheet))),

@@ -54,7 +54,7 @@ fn beyond(random: &mut Random, old: u16, most: usize, top: usize) -> u16 {
 fn break_total(random: &mut Random, component: &mut Component, fields: &Fields) {
     let old = component.total;
     component.total = beyond(random, old, TOP_TOTAL.into(), fields.total);
-    // With weights that still add to it, nothing but the total is wrong.
+    // Above 1,000 nothing but the total is wrong: the weights leave a greater rest, or grow with it.
     let weight = &mut component.intervals[random.below(component.used().len().max(1))].weight;
     let grown = usize::from(*weight) + usize::from(component.total.saturating_sub(old));
     if grown <= fields.weight && random.chance(70) {
@@ -74,10 +74,12 @@ fn break_interval(random: &mut Random, component: &mut Component, fields: &Field
                 intervals[k - 1].low = intervals[k - 1].high;
             }
         }
-        1 if k > 1 => {
-            // A weight of 0; the component's weights still add to its total.
+        1 => {
+            // A weight of 0; what it was goes to another weight or to the rest.
             let other = (place + 1) % k;
-            intervals[other].weight = intervals[other].weight.wrapping_add(intervals[place].weight);
+            if random.chance(50) {
+                intervals[other].weight = intervals[other].weight.wrapping_add(intervals[place].weight);
+            }
             intervals[place].weight = 0;
         }
         2 if k > 1 => intervals.swap(place, (place + 1) % k),
@@ -94,21 +96,23 @@ fn break_interval(random: &mut Random, component: &mut Component, fields: &Field
     }
 }
 
+/// Weights that add to more than T: by one, by any number, or so that the sum is right but for a bit above the field.
 fn break_sum(random: &mut Random, component: &mut Component, fields: &Fields) {
     let k = component.used().len().max(1);
     let place = random.below(k);
     let other = (place + 1) % k;
-    let both = usize::from(component.intervals[place].weight) + usize::from(component.intervals[other].weight);
+    let weight = usize::from(component.intervals[place].weight);
+    let both = weight + usize::from(component.intervals[other].weight);
+    let least = (weight + component.rest() as usize + 1).min(fields.weight); // too much by one
+    let sum = component.sum();
     match random.below(5) {
-        0 if component.total > 1 => component.total -= 1,
-        1 if component.total < TOP_TOTAL => component.total += 1,
-        2 if k > 1 && both < fields.weight => {
-            // A sum that is right but for a bit above the field.
+        0 if sum > 1 => component.total = (sum - 1).min(TOP_TOTAL.into()) as u16,
+        1 if k > 1 && both < fields.weight => {
             component.intervals[place].weight = fields.weight as u16;
             component.intervals[other].weight = both as u16 + 1;
         }
-        3 if component.intervals[place].weight > 1 => component.intervals[place].weight -= 1,
-        _ => component.intervals[place].weight = random.between(1, fields.weight) as u16,
+        2 => component.intervals[place].weight = random.between(least, fields.weight) as u16,
+        _ => component.intervals[place].weight = least as u16,
     }
 }
 

@@ -1,4 +1,4 @@
-//! Compares the library's five calls with a second library, written from the requirement alone, on random inputs.
+//! Compares the library's five calls with a second library, written from the requirement, on random inputs.
 //!
 //!     differential [CASES] [SEED] [FIRST]
 //!

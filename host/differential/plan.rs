@@ -20,6 +20,12 @@ pub struct Interval {
     pub weight: u16,
 }
 
+impl Interval {
+    pub fn ends(&self) -> (u16, u16) {
+        (self.low, self.high)
+    }
+}
+
 #[derive(Clone, Copy, Default, PartialEq)]
 pub struct Component {
     pub count: u16,
@@ -31,6 +37,16 @@ impl Component {
     /// The intervals in use: k, at most as many as there are places.
     pub fn used(&self) -> &[Interval] {
         &self.intervals[..usize::from(self.count).min(INTERVALS)]
+    }
+
+    /// The sum of the weights.
+    pub fn sum(&self) -> u32 {
+        self.used().iter().map(|interval| u32::from(interval.weight)).sum()
+    }
+
+    /// What the weights leave of T; 0 where they exceed it.
+    pub fn rest(&self) -> u32 {
+        u32::from(self.total).saturating_sub(self.sum())
     }
 }
 
@@ -50,6 +66,11 @@ impl Plan {
     /// The entries in use: 2n - 1.
     pub fn structure(&self) -> &[u16] {
         &self.entries[..(2 * self.used().len()).saturating_sub(1)]
+    }
+
+    /// Whether the weights of some component leave a rest.
+    pub fn has_rest(&self) -> bool {
+        self.used().iter().any(|component| component.rest() > 0)
     }
 
     /// The plan with zero in its unused places.

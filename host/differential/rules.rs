@@ -5,6 +5,9 @@ use crate::plan::{Component, Plan, COMPONENTS, INTERVALS};
 pub const TOP_SPEED: u16 = 4095;
 pub const TOP_TOTAL: u16 = 1000;
 
+/// The interval that a rest counts as: its low and its high.
+pub const WHOLE: (u16, u16) = (0, TOP_SPEED);
+
 /// The number of a plan as the writer tests it; 0 where it keeps the rules.
 pub fn of_plan(plan: &Plan) -> u32 {
     if !(1..=COMPONENTS).contains(&usize::from(plan.count)) {
@@ -43,11 +46,11 @@ fn total_broken(component: &Component) -> bool {
 fn intervals_broken(component: &Component) -> bool {
     let used = component.used();
     used.iter().any(|interval| interval.low > interval.high || interval.high > TOP_SPEED || interval.weight == 0)
-        || used.windows(2).any(|pair| (pair[0].low, pair[0].high) >= (pair[1].low, pair[1].high))
+        || used.windows(2).any(|pair| pair[0].ends() >= pair[1].ends())
 }
 
 fn weights_broken(component: &Component) -> bool {
-    component.used().iter().map(|interval| u32::from(interval.weight)).sum::<u32>() != u32::from(component.total)
+    component.sum() > u32::from(component.total)
 }
 
 fn entry_broken(entry: u16, count: u16) -> bool {

@@ -2,9 +2,10 @@
 
 use std::collections::BTreeSet;
 
+use crate::choices::WITH_REST;
 use crate::plan::{Component, Interval, Plan, COMPONENTS, INTERVALS, SERIES, SHARED, SPARE};
 use crate::random::Random;
-use crate::rules::{TOP_SPEED, TOP_TOTAL};
+use crate::rules::{TOP_SPEED, TOP_TOTAL, WHOLE};
 
 type Ends = (u16, u16);
 
@@ -12,19 +13,22 @@ type Ends = (u16, u16);
 pub fn any(random: &mut Random) -> Plan {
     let n = random.between(1, COMPONENTS);
     let full = random.chance(10);
-    let counts: Vec<usize> = (0..n).map(|_| if full { INTERVALS } else { random.between(1, INTERVALS) }).collect();
+    let counts: Vec<usize> = (0..n).map(|_| if full { WITH_REST } else { random.between(1, WITH_REST) }).collect();
     mixed(random, &counts)
 }
 
 /// A plan to be run: most have few choices of one interval per component, since all of them are enumerated.
 pub fn to_run(random: &mut Random) -> Plan {
     match random.below(10_000) {
-        0..=23 => widest(random),
-        24..=29 => {
-            let last = random.pick(&[4, 5]);
-            two_ladders(random, last)
+        0..=7 => two_ladders(random, WITH_REST, WITH_REST),
+        8 => widest(random, WITH_REST),
+        9..=11 => two_ladders(random, INTERVALS, INTERVALS),
+        12..=18 => widest(random, INTERVALS),
+        19..=24 => {
+            let (base, last) = (random.pick(&[INTERVALS, WITH_REST]), random.pick(&[4, 5]));
+            two_ladders(random, base, last)
         }
-        30..=1_199 => ladder(random),
+        25..=1_199 => ladder(random),
         1_200..=1_259 => up_to(random, 32_768),
         1_260..=1_799 => up_to(random, 2_048),
         1_800..=2_199 => heaviest(up_to(random, 256)),
@@ -36,7 +40,7 @@ pub fn to_run(random: &mut Random) -> Plan {
 /// A plan with at most so many choices.
 fn up_to(random: &mut Random, most: usize) -> Plan {
     let n = random.pick(&[1, 2, 2, 2, 3, 3, 3, 4, 4, 5, 5, 6]);
-    let mut counts: Vec<usize> = (0..n).map(|_| random.between(1, INTERVALS)).collect();
+    let mut counts: Vec<usize> = (0..n).map(|_| random.between(1, WITH_REST)).collect();
     while counts.iter().product::<usize>() > most {
         let component = random.below(n);
         counts[component] = counts[component].div_ceil(2);
@@ -44,7 +48,7 @@ fn up_to(random: &mut Random, most: usize) -> Plan {
     mixed(random, &counts)
 }
 
-/// The plan with a T of 1,000 in each component.
+/// The plan with a T of 1,000 in each component; the rests stay.
 fn heaviest(mut plan: Plan) -> Plan {
     for component in &mut plan.components[..usize::from(plan.count)] {
         component.intervals[0].weight += TOP_TOTAL - component.total;
@@ -71,8 +75,10 @@ fn next_to_thousandths(random: &mut Random) -> Plan {
     let mut components = Vec::new();
     for (total, fast) in totals.iter().zip(digits(number, &totals)) {
         step /= 3;
-        let middle = if six && components.is_empty() { 0 } else { step };
-        components.push(of_single_speeds(&[(0, total - 1 - fast), (middle, 1), (2 * step, fast)]));
+        let first = six && components.is_empty();
+        let middle = if first { 0 } else { step };
+        let rest = (first || !six) && random.chance(50);
+        components.push(of_single_speeds(&[(0, total - 1 - fast), (middle, 1), (2 * step, fast)], rest));
     }
     let mut entries = vec![n as u16 - 1];
     for name in (0..n as u16 - 1).rev() {
@@ -98,35 +104,40 @@ fn digits(mut number: u128, bases: &[u16]) -> Vec<u16> {
     digits
 }
 
-/// A component of single speeds with their weights; a speed of weight 0 is left out.
-fn of_single_speeds(speeds: &[(u16, u16)]) -> Component {
+/// A component of single speeds with their weights; a speed of weight 0 is left out. If `rest`, the weights of speed 0
+/// are left as a rest, which has the same low.
+fn of_single_speeds(speeds: &[(u16, u16)], rest: bool) -> Component {
     let mut component = Component::default();
     for (speed, weight) in speeds.iter().filter(|(_, weight)| *weight > 0) {
-        component.intervals[usize::from(component.count)] = Interval { low: *speed, high: *speed, weight: *weight };
-        component.count += 1;
         component.total += weight;
+        if *speed > 0 || !rest {
+            let interval = Interval { low: *speed, high: *speed, weight: *weight };
+            component.intervals[usize::from(component.count)] = interval;
+            component.count += 1;
+        }
     }
     component
 }
 
-/// Six components of eight intervals: 224 bytes, 262,144 choices.
-fn widest(random: &mut Random) -> Plan {
-    if random.chance(50) {
-        return two_ladders(random, INTERVALS);
-    }
+/// Six components with lists of `count` intervals, eight or nine: 224 bytes, 262,144 or 531,441 choices.
+fn widest(random: &mut Random, count: usize) -> Plan {
     let speeds: Vec<u16> = (0..=random.pick(&[3, 4])).collect();
-    let components: Vec<_> = (0..COMPONENTS).map(|_| component(random, INTERVALS, &speeds, false)).collect();
+    let rest = count > INTERVALS;
+    let components: Vec<_> = (0..COMPONENTS).map(|_| component(random, count, &speeds, false, rest)).collect();
     plan(&components, &structure(random, COMPONENTS))
 }
 
-/// Components with these numbers of intervals (fewer where the speeds drawn from are few) and any structure.
+/// Components with lists of these numbers of intervals (fewer where the speeds drawn from are few, and eight at most
+/// without a rest) and any structure. Half of the plans have no rest, the others some.
 fn mixed(random: &mut Random, counts: &[usize]) -> Plan {
     let speeds = some_speeds(random);
+    let rests = random.pick(&[0, 60]);
     let mut components = Vec::new();
     for count in counts {
         let own = if random.chance(25) { some_speeds(random) } else { speeds.clone() };
-        let single = random.chance(30);
-        components.push(component(random, *count, &own, single));
+        let (single, rest) = (random.chance(30), random.chance(rests));
+        let count = if rest { *count } else { INTERVALS.min(*count) };
+        components.push(component(random, count, &own, single, rest));
     }
     plan(&components, &structure(random, components.len()))
 }
@@ -152,9 +163,10 @@ fn some_speeds(random: &mut Random) -> Vec<u16> {
     }
 }
 
-/// A component of up to `count` intervals with ends among `speeds`; of single speeds if `single`.
-fn component(random: &mut Random, count: usize, speeds: &[u16], single: bool) -> Component {
-    let mut ends: BTreeSet<Ends> = BTreeSet::new();
+/// A component with a list of up to `count` intervals with ends among `speeds`; of single speeds if `single`. One of
+/// them is that of a rest if `rest`.
+fn component(random: &mut Random, count: usize, speeds: &[u16], single: bool, rest: bool) -> Component {
+    let mut ends: BTreeSet<Ends> = rest.then_some(WHOLE).into_iter().collect();
     for _ in 0..8 * count {
         if ends.len() == count {
             break;
@@ -163,30 +175,37 @@ fn component(random: &mut Random, count: usize, speeds: &[u16], single: bool) ->
         let other = if single { one } else { random.pick(speeds) };
         ends.insert((one.min(other), one.max(other)));
     }
-    weighted(random, &ends.into_iter().collect::<Vec<_>>())
+    weighted(random, ends.into_iter().collect(), rest)
 }
 
-/// A component of these intervals, in this order, with a total and weights that add to it.
-fn weighted(random: &mut Random, ends: &[Ends]) -> Component {
-    let k = ends.len();
+/// A component with a list of these intervals, in this order, with a total and weights. If `rest`, one of them is the
+/// interval from 0 to 4,095: it is left to the rest, or stays in the block and the rest is added to it.
+fn weighted(random: &mut Random, mut ends: Vec<Ends>, rest: bool) -> Component {
+    if rest && (ends.len() > INTERVALS || ends.len() > 1 && random.chance(75)) {
+        ends.retain(|ends| *ends != WHOLE);
+    }
+    let parts = ends.len() + usize::from(rest);
     let top = usize::from(TOP_TOTAL);
     let total = match random.below(6) {
-        0 => k,
+        0 => parts,
         1 => top,
         2 => top - 1,
-        3 => random.between(k, k + 20),
-        _ => random.between(k, top),
+        3 => random.between(parts, parts + 20),
+        _ => random.between(parts, top),
     };
-    let mut weights = vec![1; k];
-    let mut rest = total - k;
-    for weight in &mut weights[1..] {
-        let more = random.between(0, rest);
-        *weight += more;
-        rest -= more;
+    let mut weights = vec![1; parts];
+    let mut left = total - parts;
+    if random.chance(80) {
+        for weight in &mut weights[1..] {
+            let more = random.between(0, left);
+            *weight += more;
+            left -= more;
+        }
     }
-    weights[0] += rest;
+    weights[0] += left;
     random.shuffle(&mut weights);
-    let mut component = Component { count: k as u16, total: total as u16, ..Component::default() };
+    let mut component = Component { count: ends.len() as u16, total: total as u16, ..Component::default() };
+    // Of the weights, the last is the rest if there is one.
     for (interval, ((low, high), weight)) in component.intervals.iter_mut().zip(ends.iter().zip(weights)) {
         *interval = Interval { low: *low, high: *high, weight: weight as u16 };
     }
@@ -213,58 +232,108 @@ fn structure(random: &mut Random, n: usize) -> Vec<u16> {
     entries
 }
 
-/// Three components whose shared join has exactly `size` intervals: 0 to 7 units, 0 to 7 times eight units, and `last`
-/// speeds at most 64 units apart, so that the 64 sums of the first two overlap from one to the next.
-fn rungs(random: &mut Random, size: usize, last: usize, unit: u16) -> [Vec<Ends>; 3] {
-    let mut gaps = vec![1; last - 1];
-    for _ in last - 1..size - 64 {
-        let open: Vec<usize> = (0..gaps.len()).filter(|gap| gaps[*gap] < 64).collect();
-        gaps[random.pick(&open)] += 1;
-    }
-    let mut starts = vec![0];
-    for gap in gaps {
-        starts.push(starts[starts.len() - 1] + gap);
-    }
-    let single = |steps: Vec<u16>| steps.into_iter().map(|step| (step * unit, step * unit)).collect();
-    [single((0..8).collect()), single((0..8).map(|j| 8 * j).collect()), single(starts)]
+/// A ladder: components whose intervals stand on steps, so that a shared join adds steps.
+struct Ladder {
+    /// How many intervals each of its first two components has: eight or nine.
+    base: u16,
+    /// The speed of one step.
+    unit: u16,
+    rung: Rung,
+    /// Whether each component has a rest.
+    rest: bool,
 }
 
-/// The same intervals from another speed on, and wider.
-fn moved(ends: &[Ends], by: u16, width: u16) -> Vec<Ends> {
-    ends.iter().map(|(low, high)| (low + by, high + by + width)).collect()
+/// What stands on a step.
+#[derive(Clone, Copy)]
+enum Rung {
+    /// That speed.
+    Single,
+    /// The interval from that speed to 4,095: on step 0 the one that a rest counts as.
+    Low,
+    /// The interval from 0 to 4,095 less that speed: on step 0 the same.
+    High,
+}
+
+impl Ladder {
+    /// Of any kind; nine intervals need a rest.
+    fn of(random: &mut Random, base: usize) -> Ladder {
+        let rest = base > INTERVALS || random.chance(30);
+        let rungs = [Rung::Low, Rung::High, Rung::Single, Rung::Single, Rung::Single];
+        let rung = random.pick(if rest { &rungs[..2] } else { &rungs });
+        Ladder { base: base as u16, unit: random.between(1, 8) as u16, rung, rest }
+    }
+
+    /// Three components whose shared join has exactly `size` intervals: 0 to b - 1 units, 0 to b - 1 times b units, and
+    /// `last` steps at most b * b units apart, so that the b * b sums of the first two overlap from one to the next.
+    fn rungs(&self, random: &mut Random, size: usize, last: usize) -> [Vec<Ends>; 3] {
+        let base = self.base;
+        let sums = base * base;
+        let mut gaps = vec![1; last - 1];
+        for _ in last - 1..size - usize::from(sums) {
+            let open: Vec<usize> = (0..gaps.len()).filter(|gap| gaps[*gap] < sums).collect();
+            gaps[random.pick(&open)] += 1;
+        }
+        let mut starts = vec![0];
+        for gap in gaps {
+            starts.push(starts[starts.len() - 1] + gap);
+        }
+        [(0..base).collect(), (0..base).map(|j| base * j).collect(), starts].map(|steps| self.intervals(steps))
+    }
+
+    /// The intervals on these ascending steps, in order.
+    fn intervals(&self, steps: Vec<u16>) -> Vec<Ends> {
+        let speeds = steps.into_iter().map(|step| step * self.unit);
+        match self.rung {
+            Rung::Single => speeds.map(|speed| (speed, speed)).collect(),
+            Rung::Low => speeds.map(|speed| (speed, TOP_SPEED)).collect(),
+            Rung::High => speeds.rev().map(|speed| (0, TOP_SPEED - speed)).collect(),
+        }
+    }
+
+    /// A component of these intervals; single speeds are moved up and made wider.
+    fn component(&self, random: &mut Random, mut ends: Vec<Ends>, by: u16, width: u16) -> Component {
+        if matches!(self.rung, Rung::Single) {
+            ends.iter_mut().for_each(|(low, high)| (*low, *high) = (*low + by, *high + by + width));
+        }
+        weighted(random, ends, self.rest)
+    }
 }
 
 /// A join of 255 to 258 intervals, with up to three further components joined to it.
 fn ladder(random: &mut Random) -> Plan {
     let size: usize = random.pick(&[255, 256, 256, 256, 257, 257, 257, 258]);
-    let last = random.between((size - 64).div_ceil(64) + 1, INTERVALS);
-    let unit = random.between(1, 8) as u16;
+    let base = random.pick(&[INTERVALS, INTERVALS, WITH_REST]);
+    let sums = base * base;
+    let last = random.between((size - sums).div_ceil(sums) + 1, base);
+    let ladder = Ladder::of(random, base);
     let mut components = Vec::new();
-    for ends in rungs(random, size, last, unit) {
+    for ends in ladder.rungs(random, size, last) {
         let (by, width) = (random.pick(&[0, 0, 1, 100]), random.pick(&[0, 0, 1, 7]));
-        components.push(weighted(random, &moved(&ends, by, width)));
+        components.push(ladder.component(random, ends, by, width));
     }
     let mut names = [0, 1, 2];
     random.shuffle(&mut names);
     let [a, b, c] = names;
     let mut entries = random.pick(&[[a, b, SHARED, c, SHARED], [a, b, c, SHARED, SHARED]]).to_vec();
     for further in 3..random.pick(&[3, 3, 3, 4, 4, 5, 6]) {
-        let (count, single) = (random.between(1, 2), random.chance(50));
-        components.push(component(random, count, &[0, 1, unit, 300, 1_000, TOP_SPEED], single));
+        let (count, single, rest) = (random.between(1, 2), random.chance(50), random.chance(20));
+        components.push(component(random, count, &[0, 1, ladder.unit, 300, 1_000, TOP_SPEED], single, rest));
         entries.extend([further, random.pick(&[SERIES, SHARED, SPARE])]);
     }
     plan(&components, &entries)
 }
 
-/// Two joins of 256 intervals each, joined: 65,536 choices where `last` is 4; 262,144 and 66,688 pairs where it is 8.
-fn two_ladders(random: &mut Random, last: usize) -> Plan {
-    let unit = random.between(1, 8) as u16;
+/// Two joins of 256 intervals each, joined: 65,536 choices where `base` is 8 and `last` 4; 531,441 and 67,156 pairs, the
+/// most that there are, where both are 9.
+fn two_ladders(random: &mut Random, base: usize, last: usize) -> Plan {
+    let ladder = Ladder::of(random, base);
     let (by, width) = (random.pick(&[0, 0, 5]), random.pick(&[0, 0, 3]));
     let mut components = Vec::new();
     for _ in 0..2 {
-        let [ones, eights, rest] = rungs(random, 256, last, unit);
-        for ends in [moved(&ones, by, width), eights, rest] {
-            components.push(weighted(random, &ends));
+        let [ones, bases, starts] = ladder.rungs(random, 256, last);
+        components.push(ladder.component(random, ones, by, width));
+        for ends in [bases, starts] {
+            components.push(ladder.component(random, ends, 0, 0));
         }
     }
     let join = random.pick(&[SERIES, SERIES, SERIES, SPARE, SPARE, SPARE, SHARED]);

@@ -1,5 +1,15 @@
-/* The five calls on every number, with buffers too short, exact and too long, and on the bench table. C and C++. */
+/* The five calls on every number, with buffers too short, exact and too long, on the bench table and on rests. C and C++. */
 #include "common.h"
+
+/* One component. */
+static struct plan one(struct component c) {
+    static const uint16_t entry[1] = {0};
+    return make_plan(1, &c, entry);
+}
+
+/* A log of 940 hours of 1,000, and one that says of 25 others what the rest says of them: their lists are the same. */
+static const struct component part = {1000, 2, {{0, 0, 40}, {1200, 2000, 900}}};
+static const struct component part_added = {1000, 3, {{0, 0, 40}, {0, 4095, 25}, {1200, 2000, 900}}};
 
 /* Six modules with eight intervals and T 1,000 each, at the greatest speeds; all shared. */
 static struct plan longest(void) {
@@ -93,7 +103,7 @@ static void add_rows(struct rows *rows) {
     add(rows, 7, 4, &p);
     p = good, p.component[1].focal[1] = p.component[1].focal[0];
     add(rows, 7, 4, &p);
-    p = good, p.component[1].total = 4;
+    p = good, p.component[1].total = 2;
     add(rows, 8, 4, &p);
     for (unsigned i = 0; i < 4; i++) {
         p = good;
@@ -388,11 +398,11 @@ static const struct {
     /* n; k of A and of B; T of A and of B */
     {3, 0, 0}, {3, 0, 7}, {3, 0, 256 + 2}, {3, 0, 65535},
     {4, 1, 0}, {4, 27, 9}, {4, 27, 256 + 2}, {4, 1, 65535},
-    {6, 2, 0}, {6, 28, 1001}, {6, 28, 1024 + 3}, {6, 2, 65535}, {8, 2, 5},
+    {6, 2, 0}, {6, 28, 1001}, {6, 28, 1024 + 3}, {6, 2, 65535}, {8, 2, 3},
     /* the second low and the second high of A and of B; weights */
     {7, 4, 4}, {7, 30, 0}, {7, 4, 4096 + 2},
     {7, 12, 4096}, {7, 38, 1}, {7, 12, 4096 + 3}, {7, 38, 65535},
-    {7, 20, 0}, {8, 20, 2}, {8, 19, 2}, {8, 19, 1024 + 1}, {8, 46, 65535},
+    {7, 20, 0}, {8, 20, 4}, {8, 19, 2}, {8, 19, 1024 + 1}, {8, 46, 65535},
     /* entries */
     {9, 159, 6}, {9, 159, 7}, {9, 159, 11}, {9, 159, 15}, {9, 159, 16}, {9, 158, 2}, {9, 158, 256 + 1}, {9, 159, 256 + 9},
     {9, 157, 65535}, {10, 158, 0}, {10, 157, 9}, {10, 158, 8},
@@ -430,14 +440,15 @@ static struct plan with_rubbish(struct plan p) {
 static void test_writer(void) {
     static const uint32_t rules[] = {3, 4, 6, 7, 8, 9, 10, 11};
     struct write_pages pages = {make_fence(ROOM), make_fence(ROOM), make_fence(ROOM)};
-    const struct plan good = two(A, B, DRIVE_ED1_SHARED), full = longest(), rubbish = with_rubbish(good);
-    const struct sheet sheet = make_sheet(&good), full_sheet = make_sheet(&full);
+    const struct plan good = two(A, B, DRIVE_ED1_SHARED), full = longest(), rubbish = with_rubbish(good), rests = most_pairs();
+    const struct sheet sheet = make_sheet(&good), full_sheet = make_sheet(&full), rests_sheet = make_sheet(&rests);
     uint8_t bytes[DRIVE_PLAN_BYTES];
     struct plan p;
 
     try_write_plan(&pages, &good, 0, &sheet);
     try_write_plan(&pages, &rubbish, 0, &sheet);
     try_write_plan(&pages, &full, 0, &full_sheet);
+    try_write_plan(&pages, &rests, 0, &rests_sheet);
     for (size_t i = 0; i < sizeof changes / sizeof *changes; i++) {
         put_plan(&good, bytes);
         bytes[2 * changes[i].place] = (uint8_t)(changes[i].value / 256);
@@ -461,9 +472,12 @@ static void test_writer(void) {
     finish("drive_write_sheet: of two broken rules the first gives the number");
 }
 
-/* What is written reads back, and what is read is written back byte for byte. */
+/* What is written reads back, and what is read is written back byte for byte. A rest is in neither. */
 static void test_round_trips(void) {
-    const struct plan plans[] = {two(A, B, DRIVE_ED1_SERIES), two(W0, W1, DRIVE_ED1_SPARE), three(5), widest(), longest()};
+    const struct plan plans[] = {
+        two(A, B, DRIVE_ED1_SERIES), two(W0, W1, DRIVE_ED1_SPARE), three(5), widest(), longest(),
+        one(part), one(part_added), two(nine(0, 1), part, DRIVE_ED1_SHARED), most_pairs(),
+    };
     uint8_t want[DRIVE_PLAN_BYTES], rubbish[DRIVE_PLAN_BYTES], plan[DRIVE_PLAN_BYTES], length[DRIVE_LENGTH_BYTES];
     uint8_t sheet[DRIVE_SHEET_BYTES_MAX], again[DRIVE_SHEET_BYTES_MAX];
     for (size_t i = 0; i < sizeof plans / sizeof *plans; i++) {
@@ -481,7 +495,7 @@ static void test_round_trips(void) {
     finish("plans written and read back, sheets read and written back");
 }
 
-/* One row of the bench table, by drive_bounds and by drive_set with a demand before it that nothing reaches. */
+/* One row of a table such as the bench table, by drive_bounds and by drive_set with a demand before it that nothing reaches. */
 static void bench_row(const char *name, struct plan p, uint32_t demand, uint32_t allowance, uint32_t number, const uint64_t *want,
                       const struct drive_interval *intervals) {
     static uint8_t list[DRIVE_LIST_BYTES], answer[DRIVE_ANSWER_BYTES];
@@ -518,8 +532,7 @@ static void test_bench_table(void) {
     static const uint64_t spare_at_2[] = {12, 9, 10, 4, 4}, w_at_7[] = {10000, 429, 2640, 6, 4}, d4[] = {256, 56, 56, 320, 256};
     static const uint64_t t_1000[] = {1000, 1000, 1000, 0, 1};
     struct component c = {1000, 1, {{5, 9, 1000}}};
-    uint16_t only[1] = {0};
-    struct plan shared = two(A, B, DRIVE_ED1_SHARED), t;
+    struct plan shared = two(A, B, DRIVE_ED1_SHARED), t = one(c);
     bench_row("P1", two(A, B, DRIVE_ED1_SERIES), 2, 1000, 0, at_2, p1);
     bench_row("P2, P3", shared, 3, 1000, 0, p2_answer, p2_list);
     bench_row("P4, demand 7", shared, 7, 1000, 0, at_7, p2_list);
@@ -532,7 +545,6 @@ static void test_bench_table(void) {
     bench_row("D1, D2, D3 with 4", three(4), 200, 1000, 0, d4, NULL);
     bench_row("D1, D2, D3 with 5, allowance 384", three(5), 0, 384, 14, NULL, NULL);
     bench_row("D1, D2, D3 with 5, allowance 383", three(5), 0, 383, 13, NULL, NULL);
-    t = make_plan(1, &c, only);
     bench_row("T 1,000", t, 0, 0, 0, t_1000, NULL);
     t.component[0].total = 1001;
     bench_row("T 1,001", t, 0, 0, 6, NULL, NULL);
@@ -584,13 +596,18 @@ static struct plan six(unsigned first, unsigned others, unsigned join, unsigned 
 
 static void test_speeds(void) {
     const struct plan w = two(W0, W1, DRIVE_ED1_SERIES), shared = two(A, B, DRIVE_ED1_SHARED);
-    const struct plan swept[] = {w, shared, three(4), two_groups(1, DRIVE_ED1_SERIES), longest()};
+    const struct plan swept[] = {
+        w, shared, three(4), two_groups(1, DRIVE_ED1_SERIES), longest(), one(part), two(nine(1, 1), nine(8, 8), DRIVE_ED1_SERIES),
+    };
     const uint32_t w_targets[] = {1, 42, 43, 264, 265, DRIVE_TARGET_MAX};
     const uint64_t w_speeds[] = {7, 7, 3, 3, 0, 0};
     for (unsigned i = 0; i < 6; i++) speed_row("W", w, w_targets[i], w_speeds[i]);
-    speed_row("the most pairs", widest(), 1, 239);
-    speed_row("the most pairs", widest(), DRIVE_TARGET_MAX, 0);
-    finish("drive_speed: the speeds of W, and those of the sheet with the most pairs");
+    speed_row("the most pairs without a rest", widest(), 1, 239);
+    speed_row("the most pairs without a rest", widest(), DRIVE_TARGET_MAX, 0);
+    speed_row("the most pairs", most_pairs(), 1, 64);
+    speed_row("the most pairs", most_pairs(), 500, 31);
+    speed_row("the most pairs", most_pairs(), DRIVE_TARGET_MAX, 0);
+    finish("drive_speed: the speeds of W, and those of the sheets with the most pairs");
 
     speed_row("all of 10^18 but 1", six(1, 1, DRIVE_ED1_SPARE, DRIVE_ED1_SPARE), 999, 1500);
     speed_row("all of 10^18 but 1", six(1, 1, DRIVE_ED1_SPARE, DRIVE_ED1_SPARE), 1000, 900);
@@ -606,6 +623,133 @@ static void test_speeds(void) {
         for (uint32_t target = 1; target <= DRIVE_TARGET_MAX; target++) speed_at(&s, target);
     }
     finish("drive_speed: every target against drive_bounds");
+}
+
+/* The lists of modules whose weights add to less than T: the rest stands in its place of the order, or is added. */
+static void test_rest_lists(void) {
+    static const uint32_t demands[] = {0, 1, 1200, 1201, 2000, 2001, 4095, 4096};
+    static const uint64_t part_answers[][5] = {
+        {1000, 1000, 1000, 0, 3}, {1000, 900, 960, 0, 3}, {1000, 900, 960, 0, 3}, {1000, 0, 960, 0, 3},
+        {1000, 0, 960, 0, 3},     {1000, 0, 60, 0, 3},    {1000, 0, 60, 0, 3},    {1000, 0, 0, 0, 3},
+    };
+    static const struct drive_interval part_list[] = {{0, 0, 40}, {0, 4095, 60}, {1200, 2000, 900}};
+    for (unsigned i = 0; i < 8; i++) {
+        bench_row("940 of 1,000", one(part), demands[i], 0, 0, part_answers[i], part_list);
+        bench_row("940 of 1,000 and 25 that are listed", one(part_added), demands[i], 0, 0, part_answers[i], part_list);
+    }
+
+    static const struct component from_0 = {
+        9, 8, {{0, 1, 1}, {0, 2, 1}, {0, 3, 1}, {0, 4, 1}, {0, 5, 1}, {0, 6, 1}, {0, 7, 1}, {0, 8, 1}},
+    };
+    static const struct component any = {
+        9, 8, {{0, 0, 1}, {0, 4095, 1}, {1, 1, 1}, {2, 2, 1}, {3, 3, 1}, {4, 4, 1}, {5, 5, 1}, {6, 6, 1}},
+    };
+    static const struct drive_interval first[] = {{0, 4095, 1}, {1, 1, 1}, {2, 2, 1}, {3, 3, 1}, {4, 4, 1},
+                                                  {5, 5, 1},    {6, 6, 1}, {7, 7, 1}, {8, 8, 1}};
+    static const struct drive_interval second[] = {{0, 0, 1}, {0, 4095, 1}, {1, 1, 1}, {2, 2, 1}, {3, 3, 1},
+                                                   {4, 4, 1}, {5, 5, 1},    {6, 6, 1}, {7, 7, 1}};
+    static const struct drive_interval last[] = {{0, 1, 1}, {0, 2, 1}, {0, 3, 1}, {0, 4, 1},   {0, 5, 1},
+                                                 {0, 6, 1}, {0, 7, 1}, {0, 8, 1}, {0, 4095, 1}};
+    static const struct drive_interval added[] = {{0, 0, 1}, {0, 4095, 2}, {1, 1, 1}, {2, 2, 1},
+                                                  {3, 3, 1}, {4, 4, 1},    {5, 5, 1}, {6, 6, 1}};
+    static const uint64_t at_1[][5] = {{9, 8, 9, 0, 9}, {9, 7, 8, 0, 9}, {9, 0, 9, 0, 9}, {9, 6, 8, 0, 8}};
+    static const uint64_t nines[] = {81, 0, 16, 81, 81};
+    bench_row("eight and the rest before them", one(nine(1, 1)), 1, 0, 0, at_1[0], first);
+    bench_row("eight and the rest among them", one(nine(0, 1)), 1, 0, 0, at_1[1], second);
+    bench_row("eight and the rest behind them", one(from_0), 1, 0, 0, at_1[2], last);
+    bench_row("eight and the rest in one of them", one(any), 1, 0, 0, at_1[3], added);
+    bench_row("nine with nine, allowance 81", two(nine(0, 1), nine(8, 8), DRIVE_ED1_SHARED), 4096, 81, 0, nines, NULL);
+    bench_row("nine with nine, allowance 80", two(nine(0, 1), nine(8, 8), DRIVE_ED1_SHARED), 4096, 80, 13, NULL, NULL);
+    finish("rests: 940 of 1,000, lists of nine, a rest that is added to a listed interval");
+}
+
+/* Rests in joins of each kind, as intervals that form pairs; rests of all but 1 of 1,000. */
+static void test_rest_joins(void) {
+    static const struct component a = {5, 2, {{0, 0, 1}, {2, 3, 3}}}; /* A with a rest of 1 */
+    static const struct drive_interval series[] = {{0, 0, 3}, {0, 1, 2}, {0, 4, 1}, {1, 1, 6}, {1, 3, 3}};
+    static const struct drive_interval shared[] = {{1, 1, 2}, {1, 4, 1}, {1, 4096, 2}, {1, 4099, 1}, {3, 4, 6}, {3, 7, 3}};
+    static const struct drive_interval spare[] = {{1, 1, 2}, {1, 4, 1}, {1, 4095, 3}, {2, 3, 6}, {2, 4, 3}};
+    static const uint64_t series_at_2[] = {15, 0, 4, 6, 5}, shared_at_3[] = {15, 9, 13, 6, 6}, spare_at_4[] = {15, 0, 7, 6, 5};
+    bench_row("a rest in series", two(a, B, DRIVE_ED1_SERIES), 2, 6, 0, series_at_2, series);
+    bench_row("a rest in a shared join", two(a, B, DRIVE_ED1_SHARED), 3, 6, 0, shared_at_3, shared);
+    bench_row("a rest in a spare join", two(a, B, DRIVE_ED1_SPARE), 4, 6, 0, spare_at_4, spare);
+    struct plan d = three(4);
+    d.component[2].total = 5;
+    bench_row("D1, D2, D3 with 4 and a rest, allowance 384", d, 0, 384, 14, NULL, NULL);
+    bench_row("D1, D2, D3 with 4 and a rest, allowance 383", d, 0, 383, 13, NULL, NULL);
+
+    static const struct component hour = {1000, 1, {{5, 9, 1}}};
+    static const struct drive_interval hour_list[] = {{0, 4095, 999}, {5, 9, 1}};
+    static const struct drive_interval six_hours[] = {
+        {0, 24570, 994014980014994001u}, {5, 20484, 5970059940029994u}, {10, 16398, 14940089940015u}, {15, 12312, 19940059980u},
+        {20, 8226, 14970015u},           {25, 4140, 5994},              {30, 54, 1},
+    };
+    static const uint64_t hour_at_5[] = {1000, 1, 1000, 0, 2}, hour_at_10[] = {1000, 0, 999, 0, 2};
+    static const uint64_t six_at_5[] = {1000000000000000000u, 5985019985005999u, 1000000000000000000u, 40, 7};
+    struct plan hours = six(0, 0, DRIVE_ED1_SHARED, DRIVE_ED1_SHARED);
+    for (unsigned i = 0; i < DRIVE_MODULES_MAX; i++) hours.component[i] = hour;
+    bench_row("1 of 1,000, demand 5", one(hour), 5, 0, 0, hour_at_5, hour_list);
+    bench_row("1 of 1,000, demand 10", one(hour), 10, 0, 0, hour_at_10, hour_list);
+    bench_row("1 of 1,000 six times", hours, 5, 40, 0, six_at_5, six_hours);
+    finish("rests: in joins of each kind, the pairs that they form, the greatest");
+}
+
+/* Where of 1,000 units so many are at 1 or more, that is the belief at 1, and the speed is 0 at the next target. In series a rest
+ * leaves no speed above 0 for all of the time. */
+static void test_rest_speeds(void) {
+    for (unsigned weight = 1; weight <= 1000; weight++) {
+        const struct component c = {1000, 1, {{1, 4095, weight}}};
+        const uint64_t at_low[] = {1000, weight, 1000, 0, weight < 1000 ? 2u : 1u};
+        bench_row("a rest of every size", one(c), 1, 0, 0, at_low, NULL);
+        speed_row("a rest of every size", one(c), weight, 1);
+        if (weight < 1000) speed_row("a rest of every size", one(c), weight + 1, 0);
+    }
+    static const struct component fast = {1000, 1, {{1200, 2000, 940}}}, steady = {10, 1, {{1500, 1500, 10}}};
+    static const uint64_t join_speeds[][3] = {{1200, 0, 0}, {2700, 1500, 1500}, {1500, 1500, 1500}};
+    static const uint32_t join_targets[] = {940, 941, DRIVE_TARGET_MAX};
+    for (unsigned join = DRIVE_ED1_SERIES; join <= DRIVE_ED1_SPARE; join++)
+        for (unsigned i = 0; i < 3; i++)
+            speed_row("a rest of 60", two(fast, steady, join), join_targets[i], join_speeds[join - DRIVE_ED1_SERIES][i]);
+    finish("rests: of every size, what the logs vouch for in spite of them");
+}
+
+/* What each of the calls answers on a plan and its sheet. */
+static void all_calls(const char *name, struct plan p, uint32_t number) {
+    static uint8_t list[DRIVE_LIST_BYTES], answer[DRIVE_SPEED_ANSWER_BYTES], read[DRIVE_PLAN_BYTES], written[DRIVE_SHEET_BYTES_MAX];
+    struct sheet s = make_sheet(&p);
+    uint8_t plan[DRIVE_PLAN_BYTES], demand[DRIVE_DEMAND_BYTES] = {0}, shares[DRIVE_SHARES_BYTES];
+    put_plan(&p, plan);
+    const uint32_t got[] = {
+        drive_bounds(s.bytes, s.length, 0, DRIVE_PAIRS_MAX, list, sizeof list, answer, sizeof answer),
+        drive_set(s.bytes, s.length, demand, sizeof demand, DRIVE_PAIRS_MAX, list, sizeof list, shares, sizeof shares, answer,
+                  sizeof answer),
+        drive_speed(s.bytes, s.length, 1, DRIVE_PAIRS_MAX, list, sizeof list, answer, sizeof answer),
+        drive_read_sheet(s.bytes, s.length, read, sizeof read),
+        drive_write_sheet(plan, sizeof plan, written, sizeof written, answer, sizeof answer),
+    };
+    for (unsigned i = 0; i < 5; i++) EXPECT(got[i] == number, "%s: number %u of call %u, not %u", name, got[i], i, number);
+}
+
+/* Number 8 on both sides of its border, at each weight of six modules; sums that would be at most T if they were cut to 10 bits. */
+static void test_sums(void) {
+    static const struct component above[] = {
+        {1, 1, {{5, 9, 2}}},    {1, 2, {{5, 9, 1}, {6, 9, 1}}},    {1000, 1, {{5, 9, 1001}}}, {1, 1, {{5, 9, 1023}}},
+        {999, 1, {{5, 9, 1000}}}, {4, 2, {{5, 9, 1023}, {6, 9, 5}}}, {1000, 2, {{5, 9, 1023}, {6, 9, 1}}},
+    };
+    static const struct component up_to[] = {
+        {1, 1, {{5, 9, 1}}}, {2, 1, {{5, 9, 1}}}, {1000, 1, {{5, 9, 1000}}}, {1000, 1, {{5, 9, 999}}}, {1000, 1, {{5, 9, 1}}},
+    };
+    for (size_t i = 0; i < sizeof above / sizeof *above; i++) all_calls("above T", one(above[i]), 8);
+    for (size_t i = 0; i < sizeof up_to / sizeof *up_to; i++) all_calls("up to T", one(up_to[i]), 0);
+    for (unsigned i = 0; i < DRIVE_MODULES_MAX * DRIVE_MODULE_INTERVALS_MAX; i++) {
+        struct plan p = longest();
+        unsigned *weight = &p.component[i / DRIVE_MODULE_INTERVALS_MAX].focal[i % DRIVE_MODULE_INTERVALS_MAX].weight;
+        ++*weight;
+        all_calls("one above T", p, 8);
+        *weight -= 2;
+        all_calls("one below T", p, 0);
+    }
+    finish("number 8: sums one above T, at T and one below, by every call");
 }
 
 /* drive_set against drive_bounds at each demand: the same answers, the same list. Of two demands the greater never has more. */
@@ -650,7 +794,7 @@ static void test_sets(void) {
     static uint8_t list[DRIVE_LIST_BYTES], answer[DRIVE_ANSWER_BYTES];
     const struct plan plans[] = {
         two(W0, W1, DRIVE_ED1_SERIES), two(A, B, DRIVE_ED1_SHARED), three(4), six(50, 1, DRIVE_ED1_SPARE, DRIVE_ED1_SERIES),
-        longest(), widest(),
+        longest(), widest(), one(part), most_pairs(),
     };
     for (size_t i = 0; i < sizeof plans / sizeof *plans; i++) {
         struct sheet s = make_sheet(&plans[i]);
@@ -680,6 +824,8 @@ static void test_sets(void) {
 /* The most that a sheet can ask for: the longest sheet, the largest total, the largest demand, the most pairs. */
 static void test_ends(void) {
     static uint8_t list[DRIVE_LIST_BYTES], answer[DRIVE_ANSWER_BYTES];
+    enum { WIDEST = 2 * (64 + 512) + 256 * 256 };
+    static const uint64_t widest_answer[] = {262144, 1, 1, WIDEST, 256}, most_answer[] = {531441, 6552, 164025, DRIVE_PAIRS_MAX, 256};
     struct plan p = longest();
     struct sheet s = make_sheet(&p);
     struct drive_answer a;
@@ -694,15 +840,10 @@ static void test_ends(void) {
     got = drive_bounds(s.bytes, s.length, 0, UINT32_MAX, list, sizeof list, answer, sizeof answer);
     a = drive_read_answer(answer);
     EXPECT(got == 0 && a.belief == a.total && a.plausibility == a.total, "demand 0");
-    p = widest();
-    s = make_sheet(&p);
-    got = drive_bounds(s.bytes, s.length, 255, DRIVE_PAIRS_MAX, list, sizeof list, answer, sizeof answer);
-    a = drive_read_answer(answer);
-    EXPECT(got == 0 && a.pairs == DRIVE_PAIRS_MAX && a.intervals == DRIVE_LIST_INTERVALS_MAX, "number %u, %llu pairs", got,
-           (unsigned long long)a.pairs);
-    EXPECT(a.total == 262144 && a.belief == 1, "the share at the greatest speed of the most pairs");
-    got = drive_bounds(s.bytes, s.length, 255, DRIVE_PAIRS_MAX - 1, list, sizeof list, answer, sizeof answer);
-    EXPECT(got == 13, "number %u with one pair less allowed", got);
+    bench_row("the most pairs without a rest", widest(), 255, WIDEST, 0, widest_answer, NULL);
+    bench_row("the most pairs without a rest, one less allowed", widest(), 255, WIDEST - 1, 13, NULL, NULL);
+    bench_row("the most pairs", most_pairs(), 64, DRIVE_PAIRS_MAX, 0, most_answer, NULL);
+    bench_row("the most pairs, one less allowed", most_pairs(), 64, DRIVE_PAIRS_MAX - 1, 13, NULL, NULL);
     finish("the longest sheet, the largest total, the largest demand, the most pairs");
 }
 
@@ -710,6 +851,7 @@ static void test_messages(void) {
     EXPECT(DRIVE_NUMBER_COUNT == 19 && DRIVE_E_SHARES_BUFFER == 18, "the numbers are 0 to 18");
     EXPECT(strcmp(drive_message(DRIVE_ACCEPTED), "accepted") == 0, "the words for 0");
     EXPECT(strcmp(drive_message(DRIVE_E_EDITION), "the sheet's edition is not 1") == 0, "the words for 2");
+    EXPECT(strcmp(drive_message(DRIVE_E_WEIGHTS), "a module's weights add to more than its total") == 0, "the words for 8");
     EXPECT(strcmp(drive_message(DRIVE_E_TARGET), "the target is not 1 to 1,000 thousandths") == 0, "the words for 16");
     EXPECT(strcmp(drive_message(17), "the number of demands is not 1 to 16, or their bytes are not 4 for each") == 0,
            "the words for 17");
@@ -724,6 +866,10 @@ int main(void) {
     test_writer();
     test_round_trips();
     test_bench_table();
+    test_rest_lists();
+    test_rest_joins();
+    test_rest_speeds();
+    test_sums();
     test_speeds();
     test_sets();
     test_ends();

@@ -10,9 +10,10 @@ import sys
 from collections import Counter
 from math import prod
 
-LIST_BYTES, ANSWER_BYTES, SET_BYTES, SPEED_BYTES, PAIRS_MAX = 16384, 40, 24, 48, 66688
+LIST_BYTES, ANSWER_BYTES, SET_BYTES, SPEED_BYTES, PAIRS_MAX = 16384, 40, 24, 48, 67156
 PLAN_BYTES, LENGTH_BYTES, SHEET_BYTES = 336, 8, 224
 SERIES, SHARED, SPARE = 8, 9, 10
+ANY_SPEED = 0, 4095
 JOIN = {SERIES: min, SHARED: lambda x, y: x + y, SPARE: max}
 
 library = ctypes.CDLL(sys.argv[1])
@@ -128,13 +129,26 @@ def read_sheet(sheet):
         (6, all(1 <= total <= 1000 for total, _ in components)),
         (7, all(low <= high and weight > 0 for _, f in components for low, high, weight in f)
             and all(x[:2] < y[:2] for _, f in components for x, y in zip(f, f[1:]))),
-        (8, all(sum(weight for _, _, weight in f) == total for total, f in components)),
+        (8, all(rest_of(component) >= 0 for component in components)),
         (9, all(e < n or e in JOIN for e in entries)),
         (10, named == list(range(n))),
         (11, min(depths) >= 1),
     ]
     number = next((number for number, met in rules if not met), 0)
     return number, (components, entries)
+
+
+def rest_of(component):
+    """What the weights leave of the total."""
+    total, focal = component
+    return total - sum(weight for _, _, weight in focal)
+
+
+def leaf(component):
+    """A component's list: each interval with its weight, the rest on that of any speed."""
+    weights = Counter({(low, high): weight for low, high, weight in component[1]})
+    weights[ANY_SPEED] += rest_of(component)
+    return [(low, high, weight) for (low, high), weight in weights.items() if weight > 0]
 
 
 def joined(entries, speeds):
@@ -154,7 +168,7 @@ def late_refusal(components, entries, allowance):
     stack, pairs = [], 0
     for e in entries:
         if e not in JOIN:
-            stack.append({(low, high) for low, high, _ in components[e][1]})
+            stack.append({(low, high) for low, high, _ in leaf(components[e])})
             continue
         y, x = stack.pop(), stack.pop()
         pairs += len(x) * len(y)
@@ -175,7 +189,7 @@ def outcomes_of(sheet, allowance):
     if number != 0:
         return number, 0, 0, []
     outcomes = Counter()
-    for choice in itertools.product(*(focal for _, focal in components)):
+    for choice in itertools.product(*map(leaf, components)):
         lows, highs, weights = zip(*choice)
         outcomes[joined(entries, lows), joined(entries, highs)] += prod(weights)
     records = sorted((low, high, weight) for (low, high), weight in outcomes.items())
@@ -264,12 +278,15 @@ def round_trip(sheet):
 
 
 def random_sheet(r):
-    """A sheet with few choices: valid, or with another T, other entries or some bits changed."""
+    """A sheet with few choices and rests: valid, or with another T, other entries or some bits changed."""
     n, fastest, components = r.randint(1, 6), r.choice([3, 20, 300, 4095]), []
     for _ in range(n):
         ends = {tuple(sorted((r.randint(0, fastest), r.randint(0, fastest)))) for _ in range(r.randint(1, 8 if n < 4 else 4))}
+        if r.random() < 0.2:
+            ends = {ANY_SPEED, *[*ends][1:]}
         weights = [r.randint(1, 120) for _ in ends]
-        components.append((sum(weights), [(low, high, w) for (low, high), w in zip(sorted(ends), weights)]))
+        rest = r.choice([0, 0, 1, r.randint(0, 1000 - sum(weights))])
+        components.append((sum(weights) + rest, [(low, high, w) for (low, high), w in zip(sorted(ends), weights)]))
     names, entries, depth = r.sample(range(n), n), [], 0
     while names or depth > 1:
         if names and (depth < 2 or r.random() < 0.5):
@@ -278,8 +295,8 @@ def random_sheet(r):
         else:
             entries.append(r.choice([SERIES, SHARED, SPARE]))
             depth -= 1
-    if r.random() < 0.03:
-        components[0] = (r.choice([0, 1001, 1023]), components[0][1])
+    if r.random() < 0.05:
+        components[0] = (r.choice([0, 1001, 1023, components[0][0] - rest_of(components[0]) - 1]), components[0][1])
     if r.random() < 0.05:
         r.shuffle(entries)
     sheet = bytearray(make_sheet(components, entries))
@@ -334,7 +351,22 @@ def main():
     assert write(bytes(PLAN_BYTES)) == (3, b"\xee" * (SHEET_BYTES + 16), bytes(8) + b"\xee" * 16), "an empty plan"
     print("ok Python: one sheet, short buffers, null pointers")
 
-    r, met, sheets = random.Random(20), Counter(), 8000
+    part = make_sheet([(1000, [(0, 0, 40), (1200, 2000, 900)])], [0])
+    records = "0000 0000 0000000000000028  0000 0FFF 000000000000003C  04B0 07D0 0000000000000384"
+    outcomes = outcomes_of(part, 0)
+    assert outcomes == (0, 1000, 0, [(0, 0, 40), (0, 4095, 60), (1200, 2000, 900)])
+    assert list_bytes(0, outcomes[3]) == bytes.fromhex(records).ljust(LIST_BYTES, b"\0")
+    for demand, shares in (0, [1000, 1000]), (1, [900, 960]), (1201, [0, 960]), (2001, [0, 60]), (4096, [0, 0]):
+        assert bounds_of(outcomes, demand)[1] == [1000, *shares, 0, 3]
+        compare(drive_bounds, part, demand, 0, outcomes, bounds_of(outcomes, demand))
+        compare_set(part, [demand, 1], 0, outcomes, 32)
+    for target, speed in (900, 1200), (901, 0), (1000, 0):
+        assert speed_of(outcomes, target)[1][5] == speed
+        compare(drive_speed, part, target, 0, outcomes, speed_of(outcomes, target))
+    round_trip(part)
+    print("ok Python: 940 of 1,000 units, the rest in the list and not in the plan")
+
+    r, met, rests, sheets = random.Random(20), Counter(), Counter(), 8000
     for _ in range(sheets):
         sheet, allowance = random_sheet(r), r.choice([PAIRS_MAX, r.randint(0, 60)])
         round_trip(sheet)
@@ -345,9 +377,13 @@ def main():
         demands = random_demands(r, outcomes)
         room = max(0, 16 * len(demands) + r.choice([0, 0, 1, 16, -1]))
         met["set", compare_set(sheet, demands, allowance, outcomes, room)] += 1
+        for component in read_sheet(sheet)[1][0] if outcomes[0] == 0 else []:
+            if rest_of(component) > 0:
+                rests[len(component[1]), len(leaf(component))] += 1
     wanted = {*itertools.product(["bounds", "set", "speed"], {*range(15)} - {12}), ("speed", 16), ("set", 17), ("set", 18)}
     missing = wanted - set(met)
     assert not missing, f"numbers never met: {missing}"
+    assert min(rests[8, 8], rests[8, 9]) >= 10, f"too few rests beside eight intervals: {rests}"
     print(f"ok Python: {sheets} random sheets against the sum over all choices, read and written back")
 
 

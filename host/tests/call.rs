@@ -103,14 +103,17 @@ fn answers(answer: &[u8]) -> Vec<u64> {
     answer.chunks(8).map(number).collect()
 }
 
+fn records(list: &[u8]) -> Vec<(u64, u64, u64)> {
+    list.chunks(12).map(|r| (number(&r[..2]), number(&r[2..4]), number(&r[4..]))).collect()
+}
+
 fn main() {
     let mut list = vec![0xEE; LIST_BYTES + 3];
     let mut answer = vec![0xEE; ANSWER_BYTES + 3];
 
     assert_eq!(call(&W, 7, 6, &mut list, &mut answer), 0);
     assert_eq!(answers(&answer[..ANSWER_BYTES]), [10000, 429, 2640, 6, 4]);
-    let records: Vec<_> = list[..48].chunks(12).map(|r| (number(&r[..2]), number(&r[2..4]), number(&r[4..]))).collect();
-    assert_eq!(records, [(0, 4, 2000), (0, 6, 5360), (3, 8, 2211), (7, 10, 429)]);
+    assert_eq!(records(&list[..48]), [(0, 4, 2000), (0, 6, 5360), (3, 8, 2211), (7, 10, 429)]);
     assert!(list[48..LIST_BYTES].iter().all(|byte| *byte == 0));
     assert!(list[LIST_BYTES..].iter().chain(&answer[ANSWER_BYTES..]).all(|byte| *byte == 0xEE));
     println!("ok Rust: an accepted call");
@@ -208,4 +211,31 @@ fn main() {
     assert_eq!(write(&plan, &mut sheet, &mut []), 9);
     assert!(sheet.iter().all(|byte| *byte == 0xEE));
     println!("ok Rust: refusals of the writer and the reader");
+
+    // The first module's T is byte 3 of the sheet and byte 5 of the plan: 110 leaves a rest of 10, 99 is less than the weights.
+    let mut other = W;
+    let mut plan = plan_of_w();
+    let mut answer = vec![0xEE; SPEED_ANSWER_BYTES];
+    (other[3], plan[5]) = (110, 110);
+    assert_eq!(call(&other, 7, 8, &mut list, &mut answer), 0);
+    assert_eq!(answers(&answer[..ANSWER_BYTES]), [11000, 429, 2970, 8, 5]);
+    assert_eq!(records(&list[..60]), [(0, 4, 2000), (0, 6, 6030), (0, 10, 330), (3, 8, 2211), (7, 10, 429)]);
+    assert!(list[60..LIST_BYTES].iter().all(|byte| *byte == 0));
+    assert_eq!(set(&other, &[0, 3], 0, 8, &mut list, &mut shares, &mut answer), 0);
+    assert_eq!(answers(&shares[..32]), [11000, 11000, 2640, 11000]);
+    assert_eq!(speed(&other, 240, 8, &mut list, &mut answer), 0);
+    assert_eq!(answers(&answer), [11000, 2640, 11000, 8, 5, 3]);
+    assert_eq!(speed(&other, 241, 8, &mut list, &mut answer), 0);
+    assert_eq!(answers(&answer), [11000, 11000, 11000, 8, 5, 0]);
+    assert_eq!(read(&other, &mut read_back), 0);
+    assert_eq!(read_back[..PLAN_BYTES], plan);
+    assert_eq!(write(&plan, &mut sheet, &mut length), 0);
+    assert_eq!(sheet[..W.len()], other);
+    (other[3], plan[5]) = (99, 99);
+    assert_eq!(call(&other, 7, 8, &mut list, &mut answer), 8);
+    assert_eq!(set(&other, &[7], 0, 8, &mut list, &mut shares, &mut answer), 8);
+    assert_eq!(speed(&other, 1, 8, &mut list, &mut answer), 8);
+    assert_eq!(read(&other, &mut read_back), 8);
+    assert_eq!(write(&plan, &mut sheet, &mut length), 8);
+    println!("ok Rust: a rest, and weights above the total");
 }

@@ -105,6 +105,14 @@ static inline struct component speeds(unsigned count, unsigned step) {
     return c;
 }
 
+/* Eight single speeds, step apart from `first` on, weight 1 each, and a rest of 1: its list has nine intervals. */
+static inline struct component nine(unsigned first, unsigned step) {
+    struct component c = speeds(8, step);
+    c.total = 9;
+    for (unsigned j = 0; j < 8; j++) c.focal[j].low = c.focal[j].high = first + j * step;
+    return c;
+}
+
 /* The plan with these components and this structure. */
 static inline struct plan make_plan(unsigned components, const struct component *component, const uint16_t *entry) {
     struct plan p;
@@ -161,13 +169,31 @@ static inline struct plan two_groups(unsigned third, unsigned join) {
     return p;
 }
 
-/* The most pairs that a sheet can form: both groups have 64 and 512 pairs for their 256 speeds, and the last join 65,536. */
+/* The most pairs that a sheet without a rest can form: both groups have 64 and 512 pairs for their 256 speeds, and the last join
+ * 65,536. */
 static inline struct plan widest(void) {
     struct plan p = two_groups(1, DRIVE_ED1_SERIES);
     p.component[2] = speeds(8, 27);
     p.component[2].focal[7].low = p.component[2].focal[7].high = 192;
     p.component[5] = p.component[2];
     return p;
+}
+
+/* The most pairs that a sheet can form: both groups have 81 and 729 pairs for their 256 intervals, and the last join 65,536. That has
+ * 256 again: the second group is never slower than the first, but where all its modules are in their rests. */
+static inline struct plan most_pairs(void) {
+    static const uint16_t entry[DRIVE_ENTRIES_MAX] = {
+        0, 1, DRIVE_ED1_SHARED, 2, DRIVE_ED1_SERIES, 3, 4, DRIVE_ED1_SHARED, 5, DRIVE_ED1_SHARED, DRIVE_ED1_SERIES,
+    };
+    struct component c[DRIVE_MODULES_MAX];
+    c[0] = nine(0, 1);
+    c[1] = nine(8, 8);
+    c[2] = nine(50, 2);
+    for (unsigned j = 0; j < 8; j++) c[2].focal[j].high = 1000;
+    c[3] = nine(1400, 1);
+    c[4] = nine(1408, 8);
+    c[5] = nine(1380, 9);
+    return make_plan(DRIVE_MODULES_MAX, c, entry);
 }
 
 /* Memory that ends (or begins) at a page that can not be touched, so that one byte too far stops the test. */

@@ -18,8 +18,9 @@ static unsigned between(unsigned from, unsigned to) { return from + random_below
 
 static int after(struct focal x, struct focal y) { return x.low > y.low || (x.low == y.low && x.high > y.high); }
 
-/* Different intervals of speeds up to `fastest`, in order, with weights that add to the total. */
-static struct component random_component(unsigned fastest) {
+/* Different intervals of speeds up to `fastest`, in order, sometimes with the one that a rest is on. The weights add to the total or,
+ * where there may be rests, often to less. */
+static struct component random_component(unsigned fastest, int rests) {
     struct component c;
     unsigned wanted = between(1, DRIVE_MODULE_INTERVALS_MAX), left;
     memset(&c, 0, sizeof c);
@@ -29,6 +30,7 @@ static struct component random_component(unsigned fastest) {
         f.low = random_below(fastest + 1);
         f.high = random_below(3) == 0 ? f.low : between(f.low, fastest);
         f.weight = 1;
+        if (i == 0 && random_below(4) == 0) f.low = 0, f.high = DRIVE_SPEED_MAX;
         while (at > 0 && after(c.focal[at - 1], f)) at--;
         if (at > 0 && !after(f, c.focal[at - 1])) continue;
         memmove(&c.focal[at + 1], &c.focal[at], (c.count - at) * sizeof f);
@@ -36,7 +38,9 @@ static struct component random_component(unsigned fastest) {
         c.count++;
     }
     c.total = random_below(4) == 0 ? 1000 : between(c.count, random_below(2) == 0 ? 20 : 1000);
-    for (left = c.total - c.count; left > 0;) {
+    left = c.total - c.count;
+    if (rests && random_below(3) != 0) left = random_below(left + 1);
+    while (left > 0) {
         unsigned part = between(1, left);
         c.focal[random_below(c.count)].weight += part;
         left -= part;
@@ -44,18 +48,19 @@ static struct component random_component(unsigned fastest) {
     return c;
 }
 
-/* A valid plan: the components in any order, each join at any place where two lists stand. */
+/* A valid plan: the components in any order, each join at any place where two lists stand. Every second one may have rests. */
 static struct plan random_plan(void) {
     static const unsigned fastest[] = {3, 20, 300, 4095};
     struct plan p;
     unsigned left, depth = 0, limit = fastest[random_below(4)], order[DRIVE_MODULES_MAX];
+    int rests = random_below(2) == 0;
     memset(&p, 0, sizeof p);
     p.components = left = between(1, DRIVE_MODULES_MAX);
     for (unsigned i = 0; i < p.components; i++) {
         unsigned j = random_below(i + 1);
         order[i] = order[j];
         order[j] = i;
-        p.component[i] = random_component(limit);
+        p.component[i] = random_component(limit, rests);
     }
     for (unsigned i = 0; i + 1 < 2 * p.components; i++) {
         if (left > 0 && (depth < 2 || random_below(2) == 0)) {
@@ -75,7 +80,7 @@ static void damage_plan(struct plan *p) {
     struct focal *f = &c->focal[random_below(c->count)], swap;
     unsigned entries = 2 * p->components - 1, x = random_below(entries), y = random_below(entries);
     uint16_t entry = p->entry[x];
-    switch (random_below(10)) {
+    switch (random_below(11)) {
     case 0: c->total = random_below(2) == 0 ? 0 : between(1001, 1023); break;
     case 1: f->weight = 0; break;
     case 2: f->weight = random_below(1024); break;
@@ -85,6 +90,11 @@ static void damage_plan(struct plan *p) {
     case 6: c->total = between(1, 1000); break;
     case 7: p->entry[x] = (uint16_t)random_below(16); break;
     case 8: p->entry[x] = p->entry[y], p->entry[y] = entry; break;
+    case 9: /* one below the sum of the weights, at it or one above */
+        c->total = random_below(3);
+        for (unsigned i = 0; i < c->count; i++) c->total += c->focal[i].weight;
+        c->total--;
+        break;
     default: p->entry[x] = p->entry[y]; break;
     }
 }
@@ -186,6 +196,36 @@ static void print_met(const struct both *b) {
         printf(" %u: %u", number, b->met[number]);
     }
     printf("\n");
+}
+
+/* The modules with a rest on accepted sheets: all, those that list the rest's interval, and those whose lists have nine. */
+struct rests {
+    unsigned all, added, nine;
+};
+
+static void count_rests(struct rests *r, const uint8_t *sheet, size_t length) {
+    uint8_t plan[DRIVE_PLAN_BYTES];
+    if (drive_read_sheet(sheet, length, plan, sizeof plan) != 0) return;
+    for (unsigned m = 0; m < drive_plan_modules(plan); m++) {
+        uint64_t rest = drive_plan_total(plan, m);
+        int listed = 0;
+        for (unsigned i = 0; i < drive_plan_intervals(plan, m); i++) {
+            struct drive_interval t = drive_plan_read_interval(plan, m, i);
+            rest -= t.weight;
+            listed |= t.low == 0 && t.high == DRIVE_SPEED_MAX;
+        }
+        if (rest == 0) continue;
+        r->all++;
+        if (listed)
+            r->added++;
+        else if (drive_plan_intervals(plan, m) == DRIVE_MODULE_INTERVALS_MAX)
+            r->nine++;
+    }
+}
+
+static void print_rests(const struct rests *r) {
+    printf("   rests met: %u, %u of them in a listed interval, %u beside eight others\n", r->all, r->added, r->nine);
+    EXPECT(r->all >= 1000 && r->added >= 100 && r->nine >= 100, "too few rests");
 }
 
 /* A target: half of them at the share that an answer has or one above, some out of range. */
@@ -293,6 +333,7 @@ int main(int argc, char **argv) {
         make_side(plain_speed, NULL), 0, {0},
     };
     const struct lengths enough = {DRIVE_LIST_BYTES, 0, DRIVE_ANSWER_BYTES};
+    struct rests rests = {0, 0, 0};
     unsigned programs = 0;
     if (argc != 3) {
         fprintf(stderr, "usage: compare BOUNDS FILE\n");
@@ -320,6 +361,7 @@ int main(int argc, char **argv) {
         if (random_below(2) == 0) allowance = a.pairs > 0 ? (uint32_t)a.pairs - random_below(2) : 0;
         int exact = random_below(8) != 0;
         run_both(&bounds, exact, sheet, s.length, demand, allowance);
+        if (bounds.drive.number == 0) count_rests(&rests, sheet, s.length);
         run_both(&set, exact, sheet, s.length, demands, allowance);
         run_both(&speed, exact, sheet, s.length, target, allowance);
         if (exact && i % PROGRAM_EVERY < 2) {
@@ -331,6 +373,7 @@ int main(int argc, char **argv) {
     print_met(&bounds);
     print_met(&set);
     print_met(&speed);
+    print_rests(&rests);
     finish("the calls, plain C and bounds agree on random sheets");
     test_short_input(argv[1], argv[2]);
     return failures != 0;

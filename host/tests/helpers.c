@@ -26,7 +26,7 @@ static void build_good(uint8_t *plan) {
 
 /* The bytes are those of the layout, an entry that is not set 65,535. */
 static void test_built(uint8_t *plan) {
-    const struct plan plans[] = {two(A, B, DRIVE_ED1_SERIES), two(W0, W1, DRIVE_ED1_SPARE), three(8), widest()};
+    const struct plan plans[] = {two(A, B, DRIVE_ED1_SERIES), two(W0, W1, DRIVE_ED1_SPARE), three(8), widest(), most_pairs()};
     uint8_t want[DRIVE_PLAN_BYTES];
     for (size_t i = 0; i < sizeof plans / sizeof *plans; i++) {
         struct plan p = plans[i];
@@ -141,6 +141,11 @@ static void test_getters(uint8_t *plan) {
     r = drive_plan_read_interval(plan, 1, 1);
     EXPECT(r.low == 8 && r.high == 10 && r.weight == 33, "interval 1 of module 1");
     for (unsigned i = 0; i < 3; i++) EXPECT(drive_plan_read_entry(plan, i) == p.entry[i], "entry %u", i);
+    EXPECT(drive_plan_rest(plan, 0) == 0 && drive_plan_rest(plan, 1) == 0 && drive_plan_rest(plan, 2) == 0, "no rest");
+    drive_plan_put(plan, drive_plan_place(1) + DRIVE_AT_TOTAL, 1000);
+    EXPECT(drive_plan_rest(plan, 0) == 0 && drive_plan_rest(plan, 1) == 900, "a rest");
+    drive_plan_put(plan, drive_plan_place(1) + DRIVE_AT_TOTAL, 99);
+    EXPECT(drive_plan_rest(plan, 1) == 0, "no rest where the weights add to more than T");
     memset(plan, 0xEE, DRIVE_PLAN_BYTES); /* every place holds 61,166 */
     EXPECT(drive_plan_modules(plan) == 61166 && drive_plan_total(plan, 5) == 61166 && drive_plan_intervals(plan, 5) == 61166, "ends");
     EXPECT(drive_plan_read_interval(plan, 5, 7).weight == 61166 && drive_plan_read_entry(plan, 10) == 61166, "last places");
@@ -157,6 +162,8 @@ static void test_getters(uint8_t *plan) {
     plan[0] = 0, plan[1] = 2, plan[2] = 0, plan[3] = 3; /* n = 2, k = 3 */
     EXPECT(drive_plan_total(plan, 2) == 0 && drive_plan_intervals(plan, 2) == 0, "a module that is not in use");
     EXPECT(drive_plan_read_interval(plan, 0, 3).high == 0 && drive_plan_read_interval(plan, 0, 2).high == 61166, "an interval, too");
+    plan[3] = 0; /* k = 0 */
+    EXPECT(drive_plan_rest(plan, 0) == 61166 && drive_plan_rest(plan, 2) == 0, "the rest of a module without intervals, and of none");
     EXPECT(drive_plan_read_entry(plan, 2) == 61166 && drive_plan_read_entry(plan, 3) == 0, "an entry, too");
     plan[1] = 0;
     EXPECT(drive_plan_read_entry(plan, 0) == 0 && drive_plan_total(plan, 0) == 0, "a plan without modules");

@@ -6,7 +6,7 @@
 #include <pthread.h>
 #include <sys/wait.h>
 
-enum { PLANS = 7, CALLS = 5, THREADS = 4, ROUNDS = 200, STACK = 1 << 18, PAINT = 0xA5 };
+enum { PLANS = 8, CALLS = 5, THREADS = 4, ROUNDS = 200, STACK = 1 << 18, PAINT = 0xA5 };
 
 static const char *const names[CALLS] = {"drive_bounds", "drive_write_sheet", "drive_read_sheet", "drive_speed", "drive_set"};
 
@@ -62,6 +62,7 @@ static struct plan plan_of(unsigned i) {
     case 3: return widest();
     case 4: return make_plan(DRIVE_MODULES_MAX, c, chain);
     case 5: return two_groups(2, DRIVE_ED1_SHARED);
+    case 6: return most_pairs();
     default: p = two(A, B, DRIVE_ED1_SERIES), p.entry[2] = 11; return p;
     }
 }
