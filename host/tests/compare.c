@@ -207,14 +207,12 @@ static void count_rests(struct rests *r, const uint8_t *sheet, size_t length) {
     uint8_t plan[DRIVE_PLAN_BYTES];
     if (drive_read_sheet(sheet, length, plan, sizeof plan) != 0) return;
     for (unsigned m = 0; m < drive_plan_modules(plan); m++) {
-        uint64_t rest = drive_plan_total(plan, m);
         int listed = 0;
+        if (drive_plan_rest(plan, m) == 0) continue;
         for (unsigned i = 0; i < drive_plan_intervals(plan, m); i++) {
             struct drive_interval t = drive_plan_read_interval(plan, m, i);
-            rest -= t.weight;
             listed |= t.low == 0 && t.high == DRIVE_SPEED_MAX;
         }
-        if (rest == 0) continue;
         r->all++;
         if (listed)
             r->added++;

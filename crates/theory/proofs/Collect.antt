@@ -1,14 +1,14 @@
 -- `collect` puts a list in order and keeps every weighted sum; a list in order is determined by its weights. Assumes nothing.
 use Prim.Native.Nat.{ℕ, _+_, _*_, _≤_, Ordering, Ordering·lt, Ordering·eq, Ordering·gt}
 use mathlib.Core.Path.{_≡_, refl, sym, ap, ap₂, _∙_}
-use mathlib.Core.Bool.{Bool, true, false, cond, _&&_}
+use mathlib.Core.Bool.{Bool, true, false, cond}
 use mathlib.Core.List.{List, [], _∷_}
 use native.Mathlib.Nat.{le-refl, le-trans, add-mul}
 use native.Mathlib.Omega.{arith}
-use lib.Dec.{leb, eqb}
+use lib.Dec.{leb}
 use borrow.Author.Tests.{eq-eqb, leb-true, le-leb}
 use Rattle.theory.specs.Sums.{sumBy, Every}
-use Rattle.theory.specs.Focal.{Focal, weights, Positive}
+use Rattle.theory.specs.Focal.{Focal, sameEnds, weights, Positive}
 use Rattle.theory.specs.Choices.{weightWhere, belief, plausibility, weightAt}
 use Rattle.theory.specs.Bounds.{Antitone}
 use Rattle.theory.specs.Order.{order, Before, InOrder, merged, insertedAt, inserted, collect}
@@ -103,7 +103,7 @@ pub plausibility-collect : (d : ℕ) (fs : List Focal) → plausibility d (colle
 plausibility-collect d = where-collect (λ low high. leb d high)
 
 pub weightAt-collect : (a b : ℕ) (fs : List Focal) → weightAt a b (collect fs) ≡ weightAt a b fs
-weightAt-collect a b = where-collect (λ low high. eqb a low && eqb b high)
+weightAt-collect a b = where-collect (sameEnds a b)
 
 pub weights-weigh : (fs : List Focal) → weights fs ≡ weigh (λ a b. 1) fs
 weights-weigh = where-weigh (λ low high. true)
@@ -144,11 +144,11 @@ canonical (InOrder.more {f = f} {fs = fs} b s) (Every.more p q) (InOrder.more {f
     go (Placed.same k l) r =
         let w : f .weight ≡ g .weight = omega (arith, h (f .low) (f .high), at-self f fs, at-none f b, ap₂ (λ x y. weightAt x y (g ∷ gs)) k l, at-self g gs, at-none g c) in
         let fg : f ≡ g = λ i. record { low = k i; high = l i; weight = w i } in
-        ap₂ _∷_ fg (r (λ x y. omega (arith, h x y, ap (λ (j : Focal). cond (eqb x (j .low) && eqb y (j .high)) (j .weight) 0) fg)))
+        ap₂ _∷_ fg (r (λ x y. omega (arith, h x y, ap (λ (j : Focal). cond (sameEnds x y (j .low) (j .high)) (j .weight) 0) fg)))
 
 -- Two lists with the same weighted sums are collected to the same list.
 pub same-collect : {fs gs : List Focal} → Every Positive fs → Every Positive gs → ((k : ℕ → ℕ → ℕ) → weigh k fs ≡ weigh k gs) → collect fs ≡ collect gs
 same-collect {fs} {gs} p q h =
     canonical (order-collect fs) (positive-collect p) (order-collect gs) (positive-collect q) (λ a b.
-    let test : ℕ → ℕ → Bool = λ low high. eqb a low && eqb b high in
+    let test : ℕ → ℕ → Bool = sameEnds a b in
     where-collect test fs ∙ (where-weigh test fs ∙ (h _ ∙ (sym (where-weigh test gs) ∙ sym (where-collect test gs)))))

@@ -10,7 +10,7 @@ use lib.ListN.{length}
 use borrow.Author.Tests.{ltb-true, ltb-false, lt-ltb, le-ltb, eqb-true, eqb-false}
 use Rattle.theory.specs.Sums.{Every}
 use Rattle.theory.specs.Limits.{topSpeed, mostHeld, mostMasses}
-use Rattle.theory.specs.Focal.{Focal, hasEnds, focalAt, listed, weights, InRange, Positive}
+use Rattle.theory.specs.Focal.{Focal, sameEnds, focalAt, listed, weights, InRange, Positive}
 use Rattle.theory.specs.Order.{merged, inserted, collect}
 use Rattle.theory.specs.Masses.{rest, restFocal, addedAt, added, masses, timesAt, Distinct}
 use Rattle.theory.specs.Choices.{weightWhere}
@@ -27,7 +27,7 @@ pub data Compared (a b : ℕ) (g : Focal) : Bool → Type 0 where
   same : a ≡ g .low → b ≡ g .high → Compared a b g true
   apart : (a ≡ g .low → b ≡ g .high → ⊥) → Compared a b g false
 
-pub compared : (a b : ℕ) (g : Focal) → Compared a b g (hasEnds a b g)
+pub compared : (a b : ℕ) (g : Focal) → Compared a b g (sameEnds a b (g .low) (g .high))
 compared a b g = go _ refl _ refl
   where
     go : (x : Bool) → eqb a (g .low) ≡ x → (y : Bool) → eqb b (g .high) ≡ y → Compared a b g (x && y)
@@ -46,7 +46,7 @@ times-added a b f (g ∷ gs) = go (compared (f .low) (f .high) g) (times-added a
         → (timesAt a b (addedAt t f g gs (added f gs)) ≡ timesAt a b (g ∷ gs))
         ⊎ ((cond t 1 0 + timesAt (f .low) (f .high) gs ≡ 0) × (timesAt a b (addedAt t f g gs (added f gs)) ≡ timesAt a b (f ∷ g ∷ gs)))
     go (same p q) r = inl refl
-    go (apart h) (inl e) = inl (ap (cond (hasEnds a b g) 1 0 +_) e)
+    go (apart h) (inl e) = inl (ap (cond (sameEnds a b (g .low) (g .high)) 1 0 +_) e)
     go (apart h) (inr (z, e)) = inr (omega arith, omega arith)
 
 distinct-added : (f : Focal) (gs : List Focal) → Distinct gs → Distinct (added f gs)
@@ -76,7 +76,7 @@ where-added test f gs =
 
 every-added : (P : Focal → Type 0) → ((f g : Focal) → P f → P g → P (merged f g)) → (f : Focal) → P f → {gs : List Focal} → Every P gs → Every P (added f gs)
 every-added P m f h Every.none = Every.more h Every.none
-every-added P m f h (Every.more {x = g} {xs = gs} p r) = go (hasEnds (f .low) (f .high) g) (every-added P m f h r)
+every-added P m f h (Every.more {x = g} {xs = gs} p r) = go (sameEnds (f .low) (f .high) (g .low) (g .high)) (every-added P m f h r)
   where
     go : (t : Bool) → Every P (added f gs) → Every P (addedAt t f g gs (added f gs))
     go true s = Every.more (m f g h p) r
@@ -84,7 +84,7 @@ every-added P m f h (Every.more {x = g} {xs = gs} p r) = go (hasEnds (f .low) (f
 
 length-added : (f : Focal) (gs : List Focal) → length (added f gs) ≤ suc (length gs)
 length-added f [] = omega arith
-length-added f (g ∷ gs) = go (hasEnds (f .low) (f .high) g) (length-added f gs)
+length-added f (g ∷ gs) = go (sameEnds (f .low) (f .high) (g .low) (g .high)) (length-added f gs)
   where
     go : (t : Bool) → length (added f gs) ≤ suc (length gs) → length (addedAt t f g gs (added f gs)) ≤ suc (suc (length gs))
     go true h = omega arith
@@ -139,5 +139,5 @@ module _ (c : Component) where
   pub rest-added : RestAdded c
   rest-added = record {
     whole = λ e. no-rest (omega arith);
-    weight-at = λ a b. where-masses (λ low high. eqb a low && eqb b high) ∙ omega arith;
+    weight-at = λ a b. where-masses (sameEnds a b) ∙ omega arith;
   }

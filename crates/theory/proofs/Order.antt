@@ -1,12 +1,12 @@
 -- The order of intervals. A change of the order changes this file and `order`, `Before` of the specs. Assumes nothing.
 use Prim.Native.Nat.{ℕ, _≤_, _<_, compare, Ordering, Ordering·lt, Ordering·eq, Ordering·gt}
 use mathlib.Core.Path.{_≡_, refl, sym, ap}
-use mathlib.Core.Bool.{false, _&&_}
+use mathlib.Core.Bool.{false}
 use mathlib.Core.Logic.{inl, inr}
 use native.Mathlib.Omega.{arith}
-use lib.Dec.{eqb, isLe, isEq}
+use lib.Dec.{isLe, isEq}
 use borrow.Author.Tests.{leb-true, leb-false, eqb-true, eqb-false, eq-eqb, ne-eqb}
-use Rattle.theory.specs.Focal.{Focal}
+use Rattle.theory.specs.Focal.{Focal, sameEnds}
 use Rattle.theory.specs.Order.{lexically, order, Before}
 
 compare-lt : (a b : ℕ) → compare a b ≡ Ordering·lt → a < b
@@ -75,6 +75,6 @@ pub order-before : (f g : Focal) → Before f g → order f g ≡ Ordering·lt
 order-before f g b = order-is f g (before b)
 
 -- Of two intervals one of which comes before the other, the test of sameness is false.
-pub before-apart : (f g : Focal) → Before f g → eqb (f .low) (g .low) && eqb (f .high) (g .high) ≡ false
+pub before-apart : (f g : Focal) → Before f g → sameEnds (f .low) (f .high) (g .low) (g .high) ≡ false
 before-apart f g (inl p) = rw (ne-eqb (f .low) (g .low) (omega arith)) refl
 before-apart f g (inr p) = rw (eq-eqb (f .low) (g .low) (omega arith), ne-eqb (f .high) (g .high) (omega arith)) refl

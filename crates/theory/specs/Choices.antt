@@ -1,13 +1,13 @@
 -- The definition that decides: the sum over all choices of one interval per component, evaluated through the whole structure
 -- (source 002, definition 2.3 under independence, and formula (7)). Assumes nothing.
 use Prim.Native.Nat.{ℕ, _≤_}
-use mathlib.Core.Bool.{Bool, cond, _&&_}
+use mathlib.Core.Bool.{Bool, cond}
 use mathlib.Core.Path.{_≡_}
 use mathlib.Core.List.{List, map, Forall₂}
-use lib.Dec.{leb, eqb}
+use lib.Dec.{leb}
 use Rattle.theory.specs.Sums.{sumBy, productBy, oneOfEach}
 use Rattle.theory.specs.Masses.{masses}
-use Rattle.theory.specs.Focal.{Focal, focal, Inside}
+use Rattle.theory.specs.Focal.{Focal, focal, sameEnds, Inside}
 use Rattle.theory.specs.declared.Entry.{Entry}
 use Rattle.theory.specs.Structure.{Φ}
 use Rattle.theory.specs.declared.Component.{Component}
@@ -42,7 +42,7 @@ plausibility d = weightWhere (λ low high. leb d high)
 
 -- The weight at the interval from a to b.
 abbrev pub weightAt : ℕ → ℕ → List Focal → ℕ
-weightAt a b = weightWhere (λ low high. eqb a low && eqb b high)
+weightAt a b = weightWhere (sameEnds a b)
 
 -- A row of speeds has one inside each interval of a choice.
 abbrev pub Within : List Focal → List ℕ → Type 0

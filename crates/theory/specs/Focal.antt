@@ -25,9 +25,9 @@ noFocal = focal 0 0 0
 abbrev pub Inside : Focal → ℕ → Type 0
 Inside f s = (f .low ≤ s) × (s ≤ f .high)
 
--- It is the interval from a to b.
-abbrev pub hasEnds : ℕ → ℕ → Focal → Bool
-hasEnds a b f = eqb a (f .low) && eqb b (f .high)
+-- The interval from low to high is that from a to b.
+abbrev pub sameEnds : ℕ → ℕ → ℕ → ℕ → Bool
+sameEnds a b low high = eqb a low && eqb b high
 
 -- The interval at place i of a component.
 abbrev pub focalAt : Component → ℕ → Focal

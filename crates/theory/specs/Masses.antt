@@ -6,7 +6,7 @@ use Prim.Native.Nat.{ℕ, _-_, _≤_}
 use lib.Dec.{ltb}
 use Rattle.theory.specs.Limits.{topSpeed}
 use Rattle.theory.specs.Sums.{sumBy, productBy, Every}
-use Rattle.theory.specs.Focal.{Focal, focal, hasEnds, listed, weights, InRange, Positive}
+use Rattle.theory.specs.Focal.{Focal, focal, sameEnds, listed, weights, InRange, Positive}
 use Rattle.theory.specs.Order.{merged}
 use Rattle.theory.specs.declared.Component.{Component}
 
@@ -24,7 +24,7 @@ addedAt false f g gs others = g ∷ others
 
 abbrev pub added : Focal → List Focal → List Focal
 added f [] = f ∷ []
-added f (g ∷ gs) = addedAt (hasEnds (f .low) (f .high) g) f g gs (added f gs)
+added f (g ∷ gs) = addedAt (sameEnds (f .low) (f .high) (g .low) (g .high)) f g gs (added f gs)
 
 -- The mass assignment of a component (source 002, definition 2.2): each weight is a share of T. Where the listed weights add to less than
 -- T, the rest is added to what is listed.
@@ -37,7 +37,7 @@ total = productBy (λ c. c .total)
 
 -- How often the interval from a to b stands in a list, and that none stands there twice.
 abbrev pub timesAt : ℕ → ℕ → List Focal → ℕ
-timesAt a b = sumBy (λ f. cond (hasEnds a b f) 1 0)
+timesAt a b = sumBy (λ f. cond (sameEnds a b (f .low) (f .high)) 1 0)
 
 abbrev pub Distinct : List Focal → Type 0
 Distinct fs = (a b : ℕ) → timesAt a b fs ≤ 1
