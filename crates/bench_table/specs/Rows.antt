@@ -1,5 +1,5 @@
 -- The sheets of the rows, and how an answer and a list differ from those of the table. Assumes nothing.
-use Prim.Native.Nat.{ℕ, zero, suc, _+_, _*_, _/_}
+use Prim.Native.Nat.{ℕ, zero, suc, _+_, _*_, _-_, _/_}
 use mathlib.Core.Bool.{Bool, not, _||_}
 use mathlib.Core.List.{List, [], _∷_, map}
 use lib.Dec.{eqb}
@@ -113,7 +113,7 @@ unfoldable pub listDiffers : List ℕ → ℕ → List ℕ → Bool
 listDiffers store count list =
     differ count (length list / 3) || anyOf (recordDiffers store list) (countFrom 0 (length list / 3))
 
--- Three numbers for each of 256 records: the first n are the speeds from 0 on, and every weight is 1.
-unfoldable pub speedsBelow : ℕ → List ℕ
-speedsBelow zero = replicate (3 * mostIntervals) 1
-speedsBelow (suc n) = set (set (speedsBelow n) (3 * n) n) (3 * n + 1) n
+-- Three numbers for each of 256 records: the first n are the speeds from 255 down, and every weight is 1.
+unfoldable pub speedsDown : ℕ → List ℕ
+speedsDown zero = replicate (3 * mostIntervals) 1
+speedsDown (suc n) = let speed = mostIntervals - 1 - n in set (set (speedsDown n) (3 * n) speed) (3 * n + 1) speed

@@ -23,7 +23,7 @@ ghost use Rattle.evaluate.specs.Set.{setAnswer, setStoreAfter, sharesAfter};
 ghost use Rattle.evaluate.specs.SheetRun.{refusedRun as SheetRun·refused};
 ghost use Rattle.evaluate.specs.Bench.{accepted as Bench·accepted};
 ghost use Rattle.bench_table.specs.Rows.{componentOf, singleSpeeds, componentA, componentB, W0, W1, D1, D2, D3, chain, sheetOf, restructured};
-ghost use Rattle.bench_table.specs.Rows.{bytesOf, sharesHeld, answersDiffer, runsDiffer, sharesDiffer, recordDiffers, listDiffers, speedsBelow};
+ghost use Rattle.bench_table.specs.Rows.{bytesOf, sharesHeld, answersDiffer, runsDiffer, sharesDiffer, recordDiffers, listDiffers, speedsDown};
 
 // The bytes of the longest sheet, and of the store in all rows but one.
 const LONGEST: usize = 224;
@@ -31,96 +31,96 @@ const LONGEST: usize = 224;
 const ROOM: usize = theory::STORE_BYTES;
 
 // The table's lists, each by the first case that has it: low, high and weight of each record.
-const P1: [u64; 9] = [0, 0, 3, 1, 1, 6, 1, 3, 3];
+const P1: [u64; 9] = [1, 3, 3, 1, 1, 6, 0, 0, 3];
 
-const P2: [u64; 12] = [1, 1, 2, 1, 4, 1, 3, 4, 6, 3, 7, 3];
+const P2: [u64; 12] = [3, 7, 3, 3, 4, 6, 1, 4, 1, 1, 1, 2];
 
-const P6: [u64; 12] = [1, 1, 2, 1, 4, 1, 2, 3, 6, 2, 4, 3];
+const P6: [u64; 12] = [2, 4, 3, 2, 3, 6, 1, 4, 1, 1, 1, 2];
 
-const P7: [u64; 12] = [0, 4, 2000, 0, 6, 5360, 3, 8, 2211, 7, 10, 429];
+const P7: [u64; 12] = [7, 10, 429, 3, 8, 2211, 0, 6, 5360, 0, 4, 2000];
 
 const T1000: [u64; 3] = [0, 4095, 1000];
 
 // The lists of eight single speeds and a rest, and of two of these in series.
 const NINE: [u64; 27] = [
-    0,
-    0,
+    7,
+    7,
+    1,
+    6,
+    6,
+    1,
+    5,
+    5,
+    1,
+    4,
+    4,
+    1,
+    3,
+    3,
+    1,
+    2,
+    2,
+    1,
+    1,
+    1,
     1,
     0,
     4095,
     1,
-    1,
-    1,
-    1,
-    2,
-    2,
-    1,
-    3,
-    3,
-    1,
-    4,
-    4,
-    1,
-    5,
-    5,
-    1,
-    6,
-    6,
-    1,
-    7,
-    7,
+    0,
+    0,
     1,
 ];
 
 const NINES: [u64; 48] = [
-    0,
-    0,
-    17,
-    0,
-    1,
-    2,
-    0,
-    2,
-    2,
-    0,
-    3,
-    2,
-    0,
-    4,
-    2,
-    0,
-    5,
-    2,
-    0,
-    6,
-    2,
-    0,
     7,
-    2,
-    0,
-    4095,
+    7,
     1,
-    1,
-    1,
-    13,
-    2,
-    2,
-    11,
+    6,
+    6,
+    3,
+    5,
+    5,
+    5,
+    4,
+    4,
+    7,
     3,
     3,
     9,
-    4,
-    4,
-    7,
-    5,
-    5,
-    5,
-    6,
-    6,
-    3,
-    7,
-    7,
+    2,
+    2,
+    11,
     1,
+    1,
+    13,
+    0,
+    4095,
+    1,
+    0,
+    7,
+    2,
+    0,
+    6,
+    2,
+    0,
+    5,
+    2,
+    0,
+    4,
+    2,
+    0,
+    3,
+    2,
+    0,
+    2,
+    2,
+    0,
+    1,
+    2,
+    0,
+    0,
+    17,
 ];
 
 // A shares' buffer has room for four demands and 8 bytes behind them: 9 numbers. Each byte is 1 before the call, so each number is ONES.
@@ -377,14 +377,15 @@ fn print_shares(shares: &[u8; SHARES_ROOM], count: usize) {
     }
 }
 
-// Every speed from 0 to 255, with weight 1: the list of D1, D2 and D3 with 4.
+// Every speed from 255 down to 0, with weight 1: the list of D1, D2 and D3 with 4.
 fn every_speed() -> [u64; 3 * theory::MOST_INTERVALS]
-    ensures { λ r. ⌜ r ≡ speedsBelow mostIntervals ⌝ }
+    ensures { λ r. ⌜ r ≡ speedsDown mostIntervals ⌝ }
 {
     let mut list = [1; 3 * theory::MOST_INTERVALS];
     for i in 0..theory::MOST_INTERVALS {
-        list[3 * i] = i as u64;
-        list[3 * i + 1] = i as u64;
+        let speed = theory::MOST_INTERVALS - 1 - i;
+        list[3 * i] = speed as u64;
+        list[3 * i + 1] = speed as u64;
     }
     list
 }
@@ -656,7 +657,7 @@ fn rows_of_rests(mut n: u64) -> u64 {
         0,
         ROOM,
         accepted(1000, 440, 1000, 0, 3),
-        &[0, 4095, 60, 900, 1400, 500, 1200, 2000, 440],
+        &[1200, 2000, 440, 900, 1400, 500, 0, 4095, 60],
     );
     io::write_all(STDOUT_FILENO, b"a rest where [0,4095] is listed, demand 5");
     n = row(
@@ -666,7 +667,7 @@ fn rows_of_rests(mut n: u64) -> u64 {
         0,
         ROOM,
         accepted(10, 4, 10, 0, 2),
-        &[0, 4095, 6, 5, 6, 4],
+        &[5, 6, 4, 0, 4095, 6],
     );
     io::write_all(STDOUT_FILENO, b"weight 1 of T 1,000, demand 4,095");
     n = row(
@@ -676,7 +677,7 @@ fn rows_of_rests(mut n: u64) -> u64 {
         0,
         ROOM,
         accepted(1000, 1, 1000, 0, 2),
-        &[0, 4095, 999, 4095, 4095, 1],
+        &[4095, 4095, 1, 0, 4095, 999],
     );
     io::write_all(STDOUT_FILENO, b"eight intervals and a rest, demand 7");
     n = row(
@@ -705,7 +706,7 @@ fn rows_of_rests(mut n: u64) -> u64 {
         1000,
         ROOM,
         accepted(15, 9, 13, 6, 6),
-        &[1, 1, 2, 1, 4, 1, 1, 4096, 2, 1, 4099, 1, 3, 4, 6, 3, 7, 3],
+        &[3, 7, 3, 3, 4, 6, 1, 4099, 1, 1, 4096, 2, 1, 4, 1, 1, 1, 2],
     )
 }
 

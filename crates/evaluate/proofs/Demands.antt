@@ -19,6 +19,7 @@ use Rattle.theory.specs.Sums.{Every}
 use Rattle.theory.specs.Masses.{total}
 use Rattle.theory.specs.Focal.{Focal, weights, Positive}
 use Rattle.theory.specs.Choices.{belief, plausibility}
+use Rattle.theory.specs.Lists.{outcomesOf}
 use Rattle.theory.specs.Bounds.{Bounds}
 use Rattle.theory.proofs.Every.{every-map, every-all}
 use Rattle.theory.proofs.Masses.{length-masses, rest-added}
@@ -201,6 +202,7 @@ module _ {s : List ℕ} {allowance : ℕ} {store : List ℕ} {r : SheetRun} {aft
           list-read = rw (n, a .stored) (settled-list (needed (planOf s)) store (fits .0) (fits .1));
           list-ordered = order-collect every;
           list-positive = rw (leaves .list) at (positive-collect (positive-outcomesOf (valid .positive) (leaves .tree)));
+          lists-ordered = λ t. order-collect (outcomesOf (components s) t);
           lists-weights = weights-listOf (valid .balanced);
           list-weight = λ low high. weightAt-collect low high every;
           list-weights = weights-driveList (valid .balanced) (structure s) ∙ sym total-is;

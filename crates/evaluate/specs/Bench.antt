@@ -40,17 +40,17 @@ abbrev pub asked : List ℕ → ℕ → Answer
 asked sheet demand = answer sheet demand 1000 storeBytes
 
 pub record Bench : Type 0 where
-  pub P1-list : sheetList ABseries ≡ focal 0 0 3 ∷ focal 1 1 6 ∷ focal 1 3 3 ∷ []
+  pub P1-list : sheetList ABseries ≡ focal 1 3 3 ∷ focal 1 1 6 ∷ focal 0 0 3 ∷ []
   pub P1 : asked ABseries 2 ≡ accepted 12 0 3 4 3
-  pub P2-list : sheetList ABshared ≡ focal 1 1 2 ∷ focal 1 4 1 ∷ focal 3 4 6 ∷ focal 3 7 3 ∷ []
+  pub P2-list : sheetList ABshared ≡ focal 3 7 3 ∷ focal 3 4 6 ∷ focal 1 4 1 ∷ focal 1 1 2 ∷ []
   pub P2 : asked ABshared 1 ≡ accepted 12 12 12 4 4
   pub P3 : asked ABshared 3 ≡ accepted 12 9 10 4 4
   pub P4-seven : asked ABshared 7 ≡ accepted 12 0 3 4 4
   pub P4-eight : asked ABshared 8 ≡ accepted 12 0 0 4 4
   pub P5 : asked ABshared 0 ≡ accepted 12 12 12 4 4
-  pub P6-list : sheetList ABspare ≡ focal 1 1 2 ∷ focal 1 4 1 ∷ focal 2 3 6 ∷ focal 2 4 3 ∷ []
+  pub P6-list : sheetList ABspare ≡ focal 2 4 3 ∷ focal 2 3 6 ∷ focal 1 4 1 ∷ focal 1 1 2 ∷ []
   pub P6 : asked ABspare 2 ≡ accepted 12 9 10 4 4
-  pub P7-list : sheetList W ≡ focal 0 4 2000 ∷ focal 0 6 5360 ∷ focal 3 8 2211 ∷ focal 7 10 429 ∷ []
+  pub P7-list : sheetList W ≡ focal 7 10 429 ∷ focal 3 8 2211 ∷ focal 0 6 5360 ∷ focal 0 4 2000 ∷ []
   pub P7 : asked W 0 ≡ accepted 10000 10000 10000 6 4
   pub P8 : asked W 7 ≡ accepted 10000 429 2640 6 4
   pub P9-four : answer ABshared 3 4 storeBytes ≡ accepted 12 9 10 4 4

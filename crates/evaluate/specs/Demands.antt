@@ -94,7 +94,8 @@ module _ {I : Type 0} (s : List ℕ) (allowance : ℕ) (answered : SheetRun) (af
     -- Its shares are the answers, at every demand.
     pub list-belief : (i : I) → belief (demandAt i) (sheetList s) ≡ beliefAt i
     pub list-plausibility : (i : I) → plausibility (demandAt i) (sheetList s) ≡ plausibilityAt i
-    -- The weights of each sub-structure's list add to the product of the totals under it.
+    -- Each sub-structure's list, a leaf's and a join's, is in order, and its weights add to the product of the totals under it.
+    pub lists-ordered : (t : Tree) → InOrder (listOf (components s) t)
     pub lists-weights : (t : Tree) → weights (listOf (components s) t) ≡ totalOf (components s) t
     -- The pairs are those of the joins of the one tree that the structure builds.
     pub tree : Tree

@@ -33,6 +33,12 @@ struct Listing {
     rest: u64,
 }
 
+// What a row of pairs answers: the list's length, and where the first pair went.
+struct Row {
+    count: usize,
+    first: usize,
+}
+
 // What a join answers: its list's length, or that its list has more than 256 different intervals.
 pub enum Joined {
     Made(usize),
@@ -47,43 +53,53 @@ fn product_weight(a: u64, b: u64) -> u64
     a * b
 }
 
-// Joins one interval with the first nb records of b, and puts the pairs into the list of the first n records of out.
-fn join_row(op: Join, key: u64, weight: u64, b: &[u8], nb: usize, out: &mut [u8], n: usize) -> usize
+// Joins one interval with the first nb records of b, and puts the pairs into the list of the first n records of out. The search for pair
+// 0 begins at the hint, that for each other pair where the one before it went. `first` is left open: it is only the next row's hint, and
+// any number is right.
+fn join_row(
+    op: Join,
+    key: u64,
+    weight: u64,
+    b: &[u8],
+    nb: usize,
+    out: &mut [u8],
+    n: usize,
+    hint: usize,
+) -> Row
     requires { ⌜ Insertable (now out) n (weights (rowOf op (keyed key weight) (records nb (now b)))) ⌝ }
     requires { ⌜ recordBytes * nb ≤ length (now b) ⌝ }
     requires { ⌜ Every (Under speedLimit) (rowOf op (keyed key weight) (records nb (now b))) ⌝ }
-    ensures { λ r. ⌜ r ≡ filledRow op (keyed key weight) (now (b .entry)) nb (now (out .entry)) n .count ⌝ }
+    ensures { λ r. ⌜ r .count ≡ filledRow op (keyed key weight) (now (b .entry)) nb (now (out .entry)) n .count ⌝ }
     ensures { λ _. ⌜ now (out .exit) ≡ holding (now (out .entry)) (filledRow op (keyed key weight) (now (b .entry)) nb (now (out .entry)) n .list) ⌝ }
 {
     let low = key / SPEED_LIMIT;
     let high = key % SPEED_LIMIT;
     let mut m = n;
-    let mut hint = 0;
+    let mut first = hint;
+    let mut at = hint;
     let mut j = 0;
     while j < nb {
         let other = records::key_at(b, j);
         let joined_low = theory::join_speeds(op, low, other / SPEED_LIMIT);
         let joined_high = theory::join_speeds(op, high, other % SPEED_LIMIT);
         let product = product_weight(weight, records::weight_at(b, j));
-        let r = records::insert(
-            out,
-            m,
-            joined_low * SPEED_LIMIT + joined_high,
-            product,
-            hint,
-        );
+        let r = records::insert(out, m, joined_low * SPEED_LIMIT + joined_high, product, at);
         m = r.count;
-        hint = r.place;
+        at = r.place;
+        if j == 0 {
+            first = at;
+        }
         if MOST_INTERVALS < m {
-            return m;
+            return Row { count: m, first };
         }
         j += 1;
     }
-    m
+    Row { count: m, first }
 }
 
 // Joins the first na records of a with the first nb of b: their list at the front of out, and its length, or 257 where a 257th interval
-// would be needed.
+// would be needed. Both lists descend: as a rule a row's first pair falls where that of the row before went, or behind it, and its search
+// begins there.
 fn join_lists(op: Join, a: &[u8], na: usize, b: &[u8], nb: usize, out: &mut [u8]) -> usize
     requires { ⌜ (recordBytes * na ≤ length (now a)) × (recordBytes * nb ≤ length (now b)) × (listBytes ≤ length (now out)) ⌝ }
     requires { ⌜ Storable (pairs op (records na (now a)) (records nb (now b))) ⌝ }
@@ -91,10 +107,13 @@ fn join_lists(op: Join, a: &[u8], na: usize, b: &[u8], nb: usize, out: &mut [u8]
     ensures { λ _. ⌜ now (out .exit) ≡ holding (now (out .entry)) (fill [] (pairs op (records na (now (a .entry))) (records nb (now (b .entry)))) .list) ⌝ }
 {
     let mut m = 0;
+    let mut hint = 0;
     let mut i = 0;
     while i < na {
         let key = records::key_at(a, i);
-        m = join_row(op, key, records::weight_at(a, i), b, nb, out, m);
+        let r = join_row(op, key, records::weight_at(a, i), b, nb, out, m, hint);
+        m = r.count;
+        hint = r.first;
         if MOST_INTERVALS < m {
             return m;
         }
@@ -173,7 +192,8 @@ fn left_of(a: u64, b: u64) -> u64
     if b < a { a - b } else { 0 }
 }
 
-// Builds the list of what a component lists at the front of out.
+// Builds the list of what a component lists at the front of out. A block ascends and a list descends: from the block's last interval to
+// its first, each falls behind those already there.
 fn put_listed(c: Component, out: &mut [u8]) -> Listing
     requires { ⌜ (c .count ≤ mostHeld) × (listBytes ≤ length (now out)) ⌝ }
     ensures { λ r. ⌜ r ≡ listingOf c ⌝ }
@@ -185,21 +205,23 @@ fn put_listed(c: Component, out: &mut [u8]) -> Listing
     let weights = c.weights;
     let count = c.count;
     let mut m = 0;
+    let mut hint = 0;
     let mut rest = numbers::widened(c.total);
-    let mut i = 0;
-    while i < count {
+    let mut i = count;
+    while 0 < i {
+        i -= 1;
         let key = numbers::widened(lows[i]) * SPEED_LIMIT + numbers::widened(highs[i]);
         let weight = numbers::widened(weights[i]);
-        let r = records::insert(out, m, key, weight, m);
+        let r = records::insert(out, m, key, weight, hint);
         m = r.count;
+        hint = r.place;
         rest = left_of(rest, weight);
-        i += 1;
     }
     Listing { count: m, rest }
 }
 
 // Builds the list of a component's mass assignment at the front of out: what it lists, and the rest, if there is one, on the interval from 0
-// to 4,095, whose key is its high.
+// to 4,095, whose key is its high. The hint n names no record: the whole list is searched.
 fn put_masses(c: Component, out: &mut [u8]) -> usize
     requires { ⌜ (c .count ≤ mostHeld) × (listBytes ≤ length (now out)) ⌝ }
     ensures { λ r. ⌜ r ≡ length (collect (masses c)) ⌝ }
@@ -210,7 +232,7 @@ fn put_masses(c: Component, out: &mut [u8]) -> usize
     let n = listing.count;
     let rest = listing.rest;
     if 0 < rest {
-        let r = records::insert(out, n, key, rest, 0);
+        let r = records::insert(out, n, key, rest, n);
         return r.count;
     }
     n

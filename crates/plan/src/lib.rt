@@ -112,7 +112,7 @@ fn bad_alone(low: u16, high: u16, weight: u16) -> bool
     weight == 0
 }
 
-// The second interval comes strictly after the first.
+// The second interval comes strictly after the first, in ascending order of low, then of high.
 fn is_after(low1: u16, high1: u16, low2: u16, high2: u16) -> bool
     ensures { λ r. ⌜ r ≡ after (focal low1 high1 0) (focal low2 high2 0) ⌝ }
 {

@@ -84,23 +84,22 @@ fn target_met(share: u64, target: u32, total: u64) -> bool
     quotient + (rest + (THOUSANDTHS - 1)) / THOUSANDTHS <= share
 }
 
-// The speed for a target, 0 where no low meets it. The lows of the first n records are tried from the fastest down, and the first that
-// meets the target ends the search. Records with one low are tried one after the other: the low, and so the answer, is the same.
+// The speed for a target, 0 where no low meets it. The lows of the first n records are tried from the front, the fastest first, and the
+// first that meets the target ends the search. Records with one low are tried one after the other: the low, and so the answer, is the same.
 pub fn speed_for(s: &[u8], n: usize, target: u32, total: u64) -> u64
     requires { ⌜ Searchable (now s) n target total ⌝ }
     ensures { λ r. ⌜ r ≡ speedFor target total (records n (now (s .entry))) ⌝ }
 {
     let mut belief: u64 = 0;
-    let mut i = n;
+    let mut i = 0;
     loop {
-        if i == 0 {
+        if i == n {
             break 0;
         }
-        let place = i - 1;
-        belief += records::weight_at(s, place);
+        belief += records::weight_at(s, i);
         if target_met(belief, target, total) {
-            break records::key_at(s, place) / SPEED_LIMIT;
+            break records::key_at(s, i) / SPEED_LIMIT;
         }
-        i = place;
+        i += 1;
     }
 }

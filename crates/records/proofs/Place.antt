@@ -47,22 +47,22 @@ neither f g = by-order (λ o. isBefore o ≡ false → isEq o ≡ false → Befo
 
 -- ---- keys
 
-key-lt : (f g : Focal) → f .high < speedLimit → g .high < speedLimit → Before f g → keyOf f < keyOf g
+key-lt : (f g : Focal) → f .high < speedLimit → g .high < speedLimit → Before f g → keyOf g < keyOf f
 key-lt f g u v (inl h) = omega arith
 key-lt f g u v (inr h) = omega arith
 
 -- A record's key is tested against another key.
 pub key-tests : (s : List ℕ) (i key : ℕ) → Bytes s → let f = recordAt s i in
-    (ltb (keyOf f) key ≡ isBefore (order f (keyed key 0))) × (eqb (keyOf f) key ≡ isEq (order f (keyed key 0)))
+    (ltb key (keyOf f) ≡ isBefore (order f (keyed key 0))) × (eqb (keyOf f) key ≡ isEq (order f (keyed key 0)))
 key-tests s i key b =
     let f : Focal = recordAt s i in
     let g : Focal = keyed key 0 in
     let u : f .high < speedLimit = record-under s i b .1 in
     let v : g .high < speedLimit = omega arith in
-    by-order (λ o. (ltb (keyOf f) key ≡ isBefore o) × (eqb (keyOf f) key ≡ isEq o)) f g
-    (λ h. (lt-ltb (keyOf f) key (omega (arith, key-lt f g u v h)), ne-eqb (keyOf f) key (λ e. omega (arith, key-lt f g u v h))))
-    (λ p q. (le-ltb (keyOf f) key (omega arith), eq-eqb (keyOf f) key (omega arith)))
-    (λ h. (le-ltb (keyOf f) key (omega (arith, key-lt g f v u h)), ne-eqb (keyOf f) key (λ e. omega (arith, key-lt g f v u h))))
+    by-order (λ o. (ltb key (keyOf f) ≡ isBefore o) × (eqb (keyOf f) key ≡ isEq o)) f g
+    (λ h. (lt-ltb key (keyOf f) (omega (arith, key-lt f g u v h)), ne-eqb (keyOf f) key (λ e. omega (arith, key-lt f g u v h))))
+    (λ p q. (le-ltb key (keyOf f) (omega arith), eq-eqb (keyOf f) key (omega arith)))
+    (λ h. (le-ltb key (keyOf f) (omega (arith, key-lt g f v u h)), ne-eqb (keyOf f) key (λ e. omega (arith, key-lt g f v u h))))
 
 -- ---- the place
 

@@ -56,12 +56,12 @@ fn write_weight(s: &mut [u8], i: usize, weight: u64)
     numbers::write_number(s, RECORD_BYTES * i + 4, 8, weight);
 }
 
-// Whether record i comes before the interval of the key: the one comparison by which lists are ordered.
+// Whether record i comes before the interval of the key: the greater key comes first. The one comparison by which lists are ordered.
 fn precedes(s: &[u8], i: usize, key: u64) -> bool
     requires { ⌜ recordBytes * i + recordBytes ≤ length (now s) ⌝ }
     ensures { λ r. ⌜ r ≡ isBefore (order (recordAt (now (s .entry)) i) (keyed key 0)) ⌝ }
 {
-    key_at(s, i) < key
+    key < key_at(s, i)
 }
 
 // Whether record i is the interval of the key.
@@ -92,7 +92,7 @@ fn bisect(s: &[u8], n: usize, key: u64, from: usize, to: usize) -> usize
     lo
 }
 
-// The place of the key's interval among the first n records. The hint is any number: the search begins there.
+// The place of the key's interval among the first n records. The hint is any number: where it is below n, the search begins there.
 fn find(s: &[u8], n: usize, key: u64, hint: usize) -> usize
     requires { ⌜ recordBytes * n ≤ length (now s) ⌝ }
     requires { ⌜ InOrder (records n (now s)) ⌝ }

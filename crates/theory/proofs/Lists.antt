@@ -73,11 +73,6 @@ insert-commute f g l = go (placed f g)
         insert-merged f g p q l ∙ (ap (λ (h : Focal). inserted h l) (merged-comm f g p q) ∙ sym (insert-merged g f (sym p) (sym q) l))
     go (Placed.after b) = sym (commute-before g f b l)
 
--- One more interval at the end may be inserted last.
-pub collect-snoc : (fs : List Focal) (f : Focal) → collect (fs ++ (f ∷ [])) ≡ inserted f (collect fs)
-collect-snoc [] f = refl
-collect-snoc (g ∷ fs) f = ap (inserted g) (collect-snoc fs f) ∙ insert-commute g f (collect fs)
-
 -- All of fs inserted into a list, one after the other from the left.
 abbrev pub insertAll : List Focal → List Focal → List Focal
 insertAll l [] = l

@@ -1,4 +1,5 @@
--- The order of intervals. A change of the order changes this file and `order`, `Before` of the specs. Assumes nothing.
+-- The order of intervals. What goes by its direction: `placed` and `before-low` here, the search for a speed (Speed), the keys of records.
+-- Assumes nothing.
 use Prim.Native.Nat.{ℕ, _≤_, _<_, compare, Ordering, Ordering·lt, Ordering·eq, Ordering·gt}
 use mathlib.Core.Path.{_≡_, refl, sym, ap}
 use mathlib.Core.Bool.{false}
@@ -30,7 +31,7 @@ pub data Placed (f g : Focal) : Ordering → Type 0 where
 pub placed : (f g : Focal) → Placed f g (order f g)
 placed f g = go _ refl _ refl
   where
-    go : (o : Ordering) → compare (f .low) (g .low) ≡ o → (p : Ordering) → compare (f .high) (g .high) ≡ p → Placed f g (lexically o p)
+    go : (o : Ordering) → compare (g .low) (f .low) ≡ o → (p : Ordering) → compare (g .high) (f .high) ≡ p → Placed f g (lexically o p)
     go Ordering·lt e p k = before (inl (compare-lt _ _ e))
     go Ordering·gt e p k = after (inl (compare-gt _ _ e))
     go Ordering·eq e Ordering·lt k = before (inr (compare-eq _ _ e, compare-lt _ _ k))
@@ -47,8 +48,8 @@ pub before-same : (f g h : Focal) → f .low ≡ h .low → f .high ≡ h .high 
 before-same f g h p q (inl b) = inl (omega arith)
 before-same f g h p q (inr b) = inr (omega arith)
 
--- The earlier of two intervals has the lower low, or the same.
-pub before-low : (f g : Focal) → Before f g → f .low ≤ g .low
+-- The earlier of two intervals has the greater low, or the same.
+pub before-low : (f g : Focal) → Before f g → g .low ≤ f .low
 before-low f g (inl p) = omega arith
 before-low f g (inr p) = omega arith
 

@@ -1,13 +1,14 @@
--- In a list in order the lows are tried from the fastest down: the first at which the weights passed meet the target is the speed.
+-- In a list in order the lows are tried from the front, the fastest first: the first at which the weights passed meet the target is the speed.
 -- Assumes nothing.
-use Prim.Native.Nat.{ℕ, zero, suc, _+_, _*_, _≤_, _<_}
-use mathlib.Core.Path.{_≡_, refl, sym, ap}
+use Prim.Native.Nat.{ℕ, zero, suc, _*_, _≤_, _<_}
+use mathlib.Core.Path.{_≡_, refl}
 use mathlib.Core.Bool.{Bool, true, false, cond}
 use mathlib.Core.List.{List, [], _∷_}
 use native.Mathlib.Nat.{le-refl, le-of-eq, le-antisymm}
 use native.Mathlib.Omega.{arith}
 use lib.Dec.{leb}
-use lib.ListN.{length, drop, getD}
+use lib.ListN.{length, take, getD}
+use lib.Seq.{take-length}
 use borrow.Author.Tests.{leb-true, leb-false, le-leb, lt-leb}
 use Rattle.theory.specs.Limits.{thousandths}
 use Rattle.theory.specs.Sums.{greatestBy, Every}
@@ -36,25 +37,26 @@ module _ {A : Type 0} (f : A → ℕ) where
 abbrev pub lowAt : List Focal → ℕ → ℕ
 lowAt l i = (getD l i noFocal) .low
 
--- All weights count where no low is below the demand.
-belief-all : (d : ℕ) {l : List Focal} → Every (λ f. d ≤ f .low) l → belief d l ≡ weights l
-belief-all d Every.none = refl
-belief-all d (Every.more {x = f} {xs = fs} h r) = rw (le-leb d (f .low) h) (ap (f .weight +_) (belief-all d r))
+-- No weight counts where every low is below the demand.
+belief-none : (d : ℕ) {l : List Focal} → Every (λ f. f .low < d) l → belief d l ≡ 0
+belief-none d Every.none = refl
+belief-none d (Every.more {x = f} h r) = rw (lt-leb d (f .low) h) (omega (arith, belief-none d r))
 
--- Each interval from place i on counts at the low of interval i,
-belief-from : {l : List Focal} (i : ℕ) → InOrder l → i < length l → weights (drop i l) ≤ belief (lowAt l i) l
-belief-from i InOrder.none h = absurd (omega arith)
-belief-from zero (InOrder.more {f = f} {fs = fs} b r) h =
-    le-of-eq (sym (belief-all (f .low) {l = f ∷ fs} (Every.more (le-refl (f .low)) (every-map (before-low f) b))))
-belief-from (suc i) (InOrder.more {f = f} {fs = fs} b r) h = omega (arith, belief-from i r (omega arith))
+-- Each interval up to place i counts at the low of interval i,
+belief-up-to : {l : List Focal} (i : ℕ) → InOrder l → i < length l → weights (take (suc i) l) ≤ belief (lowAt l i) l
+belief-up-to i InOrder.none h = absurd (omega arith)
+belief-up-to zero (InOrder.more {f = f} {fs = fs} b r) h = rw (le-leb (f .low) (f .low) (le-refl (f .low))) (omega arith)
+belief-up-to (suc i) (InOrder.more {f = f} {fs = fs} b r) h =
+    let p : lowAt fs i ≤ f .low = before-low f (getD fs i noFocal) (index-of-every noFocal b i (omega arith)) in
+    rw (le-leb (lowAt fs i) (f .low) p) (omega (arith, belief-up-to i r (omega arith)))
 
--- and above that low none up to place i does.
-belief-above : {l : List Focal} (i d : ℕ) → InOrder l → i < length l → lowAt l i < d → belief d l ≤ weights (drop (suc i) l)
+-- and above that low none from place i on does.
+belief-above : {l : List Focal} (i d : ℕ) → InOrder l → i < length l → lowAt l i < d → belief d l ≤ weights (take i l)
 belief-above i d InOrder.none h k = absurd (omega arith)
-belief-above zero d (InOrder.more {f = f} {fs = fs} b r) h k = rw (lt-leb d (f .low) k) (omega (arith, where-le (λ low high. leb d low) fs))
+belief-above zero d (InOrder.more {f = f} {fs = fs} b r) h k =
+    le-of-eq (belief-none d {l = f ∷ fs} (Every.more k (every-map (λ g p. omega (arith, before-low f g p)) b)))
 belief-above (suc i) d (InOrder.more {f = f} {fs = fs} b r) h k =
-    let p : f .low ≤ lowAt fs i = before-low f (getD fs i noFocal) (index-of-every noFocal b i (omega arith)) in
-    rw (lt-leb d (f .low) (omega arith)) (omega (arith, belief-above i d r (omega arith) k))
+    omega (arith, belief-above i d r (omega arith) k, where-le (λ low high. leb d low) (f ∷ []))
 
 -- ---- the search
 
@@ -78,16 +80,16 @@ module _ (target whole : ℕ) where
       at-most true k = k
       at-most false k = omega arith
 
-  -- The weights from place i on meet the target, and those behind it do not.
+  -- The weights up to place i meet the target, and those in front of it do not.
   pub record Found (l : List Focal) (i : ℕ) : Type 0 where
     pub inside : i < length l
-    pub met : Meets target whole (weights (drop i l))
-    pub before : Meets target whole (weights (drop (suc i) l)) → ⊥
+    pub met : Meets target whole (weights (take (suc i) l))
+    pub before : Meets target whole (weights (take i l)) → ⊥
 
   module _ {l : List Focal} (o : InOrder l) {i : ℕ} (found : Found l i) where
     pub found-greatest : GreatestDemand target whole (λ d. belief d l) (lowAt l i)
     found-greatest = record {
-      met = omega (arith, found .met, belief-from i o (found .inside));
+      met = omega (arith, found .met, belief-up-to i o (found .inside));
       greatest = λ d m. go d m (leb d (lowAt l i)) refl;
     }
       where
@@ -108,21 +110,19 @@ module _ (target whole : ℕ) where
       let none : (d : ℕ) → Meets target whole (belief d l) → d ≤ 0 = λ d m. absurd (h (omega (arith, m, where-le (λ low high. leb d low) l))) in
       le-antisymm (omega arith) (greatest-most (tried l) 0 (every-all (tried-most l 0 none) l))
 
-  -- Where all weights together meet a target above 0, some place is found.
-  find : 0 < target * whole → (l : List Focal) → Meets target whole (weights l) → (i : ℕ) × Found l i
-  find p [] h = absurd (omega arith)
-  find p (f ∷ fs) h = go (meets target whole (weights fs)) refl (find p fs)
+  -- Where the first n weights together meet a target above 0, some place is found.
+  find : 0 < target * whole → (l : List Focal) (n : ℕ) → n ≤ length l → Meets target whole (weights (take n l)) → (i : ℕ) × Found l i
+  find p l zero h m = absurd (omega arith)
+  find p l (suc n) h m = go (meets target whole (weights (take n l))) refl (find p l n (omega arith))
     where
-      go : (b : Bool) → meets target whole (weights fs) ≡ b → (Meets target whole (weights fs) → (i : ℕ) × Found fs i) → (i : ℕ) × Found (f ∷ fs) i
-      go true e r =
-          let (i, found) = r (leb-true _ _ e) in
-          (suc i, record { inside = omega (arith, found .inside); met = found .met; before = found .before })
-      go false e r = (0, record { inside = omega arith; met = h; before = λ m. omega (arith, m, leb-false (target * whole) (thousandths * weights fs) e) })
+      go : (b : Bool) → meets target whole (weights (take n l)) ≡ b → (Meets target whole (weights (take n l)) → (i : ℕ) × Found l i) → (i : ℕ) × Found l i
+      go true e r = r (leb-true _ _ e)
+      go false e r = (n, record { inside = h; met = m; before = λ k. omega (arith, k, leb-false (target * whole) (thousandths * weights (take n l)) e) })
 
   -- The speed of a list in order is the greatest demand that meets the target, and no other number is.
   pub speed-greatest : 0 < target * whole → {l : List Focal} → InOrder l → Meets target whole (weights l)
       → GreatestDemand target whole (λ d. belief d l) (speedFor target whole l)
-  speed-greatest p {l} o h = let (i, found) = find p l h in rw (← found-speed o found) (found-greatest o found)
+  speed-greatest p {l} o h = let (i, found) = find p l (length l) (le-refl (length l)) (rw (take-length l) h) in rw (← found-speed o found) (found-greatest o found)
 
   pub greatest-one : {beliefAt : ℕ → ℕ} {v w : ℕ} → GreatestDemand target whole beliefAt v → GreatestDemand target whole beliefAt w → v ≡ w
   greatest-one p q = le-antisymm (q .greatest _ (p .met)) (p .greatest _ (q .met))

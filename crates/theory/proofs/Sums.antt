@@ -8,7 +8,7 @@ use native.Mathlib.Nat.{mul-one, add-zero, add-assoc, zero-add, mul-zero, mul-ad
 use native.Mathlib.Numerals.{add-one}
 use native.Mathlib.Omega.{arith}
 use lib.Dec.{eqb}
-use lib.ListN.{length, getD, take, drop, length-map}
+use lib.ListN.{length, getD, take, drop, length-map, take-append-drop}
 use lib.Seq.{take-suc}
 use borrow.Author.Tests.{eqb-true, eqb-false, ne-eqb}
 use Rattle.theory.specs.Sums.{sumBy, forEach, oneOfEach, countFrom}
@@ -26,10 +26,12 @@ module _ {A : Type 0} where
   sum-le h [] = le-refl 0
   sum-le h (x ∷ xs) = add-le-add (h x) (sum-le h xs)
 
-  pub sum-drop : (f : A → ℕ) (n : ℕ) (xs : List A) → sumBy f (drop n xs) ≤ sumBy f xs
-  sum-drop f zero xs = le-refl (sumBy f xs)
-  sum-drop f (suc n) [] = le-refl 0
-  sum-drop f (suc n) (x ∷ xs) = omega (arith, sum-drop f n xs)
+  -- The sum over the first i elements goes on by element i, and is never above that over all.
+  pub sum-next : (f : A → ℕ) (xs : List A) (i : ℕ) (d : A) → i < length xs → sumBy f (take (i + 1) xs) ≡ sumBy f (take i xs) + f (getD xs i d)
+  sum-next f xs i d h = rw (add-one, take-suc xs i d h, sum-append) (omega arith)
+
+  pub sum-take : (f : A → ℕ) (i : ℕ) (xs : List A) → sumBy f (take i xs) ≤ sumBy f xs
+  sum-take f i xs = omega (arith, sum-append f (take i xs) (drop i xs), ap (sumBy f) (take-append-drop i xs))
 
   pub sum-scale : (k : ℕ) (f : A → ℕ) (xs : List A) → sumBy (λ x. k * f x) xs ≡ k * sumBy f xs
   sum-scale k f [] = sym (mul-zero k)

@@ -1,4 +1,5 @@
--- "Joins": a list stands in ascending order of low, then of high, no interval twice; equal intervals become one. Assumes nothing.
+-- "Joins": a list stands in descending order of low, then of high (document 02, request five), no interval twice; equal intervals become
+-- one. Assumes nothing.
 use Prim.Native.Nat.{_+_, _<_, compare, Ordering, Ordering·lt, Ordering·eq, Ordering·gt}
 use mathlib.Core.Path.{_≡_}
 use mathlib.Core.Logic.{_⊎_}
@@ -6,18 +7,19 @@ use mathlib.Core.List.{List, [], _∷_}
 use Rattle.theory.specs.Sums.{Every}
 use Rattle.theory.specs.Focal.{Focal, focal}
 
--- The order of intervals is by low, then by high.
+-- Of two comparisons the first decides, and where it is "equal" the second.
 abbrev pub lexically : Ordering → Ordering → Ordering
 lexically Ordering·lt o = Ordering·lt
 lexically Ordering·eq o = o
 lexically Ordering·gt o = Ordering·gt
 
+-- The order of intervals: by low, then by high, the greater first, so that g is compared with f.
 abbrev pub order : Focal → Focal → Ordering
-order f g = lexically (compare (f .low) (g .low)) (compare (f .high) (g .high))
+order f g = lexically (compare (g .low) (f .low)) (compare (g .high) (f .high))
 
 -- f comes strictly before g.
 abbrev pub Before : Focal → Focal → Type 0
-Before f g = (f .low < g .low) ⊎ ((f .low ≡ g .low) × (f .high < g .high))
+Before f g = (g .low < f .low) ⊎ ((g .low ≡ f .low) × (g .high < f .high))
 
 -- In a list in order each interval comes strictly before every later one.
 pub data InOrder : List Focal → Type 0 where

@@ -20,11 +20,11 @@ use Rattle.joins.proofs.join_lists.Statement.{statement}
 use Rattle.joins.proofs.join_lists.Tie as tie
 
 abbrev Inv-loop : tie.InvT-loop
-Inv-loop op a na b nb out₀ m₀ i₀ out m i =
+Inv-loop op a na b nb out₀ m₀ hint₀ i₀ out m hint i =
     (i ≤ na) × Filling out₀ out m (pairs op (drop i (records na a)) (records nb b)) (fill [] (pairs op (records na a) (records nb b)))
 
 abbrev μ-loop : tie.MeasureT-loop
-μ-loop op a na b nb out₀ m₀ i₀ out m i = na - i
+μ-loop op a na b nb out₀ m₀ hint₀ i₀ out m hint i = na - i
 
 -- The two lists, and the record of this turn.
 abbrev left : tie.Start Inv-loop μ-loop → List Focal
@@ -86,7 +86,7 @@ join-row-requires c κs =
 -- So the row is the record's.
 row : (c : tie.After-join-row Inv-loop μ-loop) → let i = c .before .before .before .before in
     let l = i .before .loop in
-    (c .join-row .result ≡ fill (records (l .m) (l .out)) (this i) .count) × (c .join-row .last .1 .1 .1 .1 .1 .0 ≡ holding (l .out) (fill (records (l .m) (l .out)) (this i) .list))
+    (c .join-row .result .count ≡ fill (records (l .m) (l .out)) (this i) .count) × (c .join-row .last .1 .1 .1 .1 .1 .0 ≡ holding (l .out) (fill (records (l .m) (l .out)) (this i) .list))
 row c =
     let w = c .before .before in
     let i = w .before .before in

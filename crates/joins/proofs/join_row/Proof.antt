@@ -17,11 +17,11 @@ use Rattle.joins.proofs.join_row.Statement.{statement}
 use Rattle.joins.proofs.join_row.Tie as tie
 
 abbrev Inv-loop : tie.InvT-loop
-Inv-loop op key weight b nb out₀ n low high m₀ hint₀ j₀ out m hint j =
+Inv-loop op key weight b nb out₀ n hint low high m₀ first₀ at₀ j₀ out m first at j =
     (j ≤ nb) × Filling out₀ out m (rowOf op (keyed key weight) (drop j (records nb b))) (filledRow op (keyed key weight) b nb out₀ n)
 
 abbrev μ-loop : tie.MeasureT-loop
-μ-loop op key weight b nb out₀ n low high m₀ hint₀ j₀ out m hint j = nb - j
+μ-loop op key weight b nb out₀ n hint low high m₀ first₀ at₀ j₀ out m first at j = nb - j
 
 -- The interval of the row, the other list, and its interval in this turn.
 abbrev own : tie.Start Inv-loop μ-loop → Focal
@@ -107,19 +107,19 @@ insert-requires c κs =
     insertable (f .held) (p .product-weight .result) (subst (λ (x : Focal). weights (f .acc) + x .weight < 2 ^ 64) (sym (made-is p)) (fits-now f))
 
 same-length : tie.Need-same-length Inv-loop μ-loop
-same-length c = let n = c .before .before .before in n .insert .kept .0 ∙ length-now (turn (turn-of (n .before .before)) .held)
+same-length c = let n = c .before .before .before .before in n .insert .kept .0 ∙ length-now (turn (turn-of (n .before .before)) .held)
 
 returns : tie.Need-returns Inv-loop μ-loop
 returns c =
-    let n = c .before .before .before in
+    let n = c .before .before .before .before in
     let i = turn-of (n .before .before) in
-    filling-stop (turn i) (given (n .before .before)) (n .insert .ensures) (c .if1 .taken)
+    filling-stop (turn i) (given (n .before .before)) (n .insert .ensures) (c .if2 .taken)
 
 loop-again : tie.Need-loop-again Inv-loop μ-loop
 loop-again c =
-    let n = c .before .before .before in
+    let n = c .before .before .before .before in
     let i = turn-of (n .before .before) in
-    (omega (arith, i .loop-test .taken), filling-step (turn i) (given (n .before .before)) (n .insert .ensures) (c .if1 .left))
+    (omega (arith, i .loop-test .taken), filling-step (turn i) (given (n .before .before)) (n .insert .ensures) (c .if2 .left))
 
 returns-2 : tie.Need-returns-2 Inv-loop μ-loop
 returns-2 c =
@@ -145,8 +145,8 @@ join-row-spec =
     insert-requires
     same-length
     returns
-    (λ c. omega (arith, turn-of (c .before .before .before .before .before) .loop-test .taken))
-    (λ c. omega (arith, turn-of (c .before .before .before .before .before) .loop-test .taken))
+    (λ c. omega (arith, turn-of (c .before .before .before .before .before .before) .loop-test .taken))
+    (λ c. omega (arith, turn-of (c .before .before .before .before .before .before) .loop-test .taken))
     loop-again
     (λ c. length-now (c .before .loop .inv .1 .held))
     returns-2)
