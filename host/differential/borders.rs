@@ -31,6 +31,11 @@ borders! {
     Rest999: "a rest of 999",
     RestNinth: "a rest beside eight intervals",
     RestListed: "a rest added to a listed interval from 0 to 4,095",
+    RestBetween: "a rest between intervals of a drive of one component",
+    ListOfOne: "a drive of one component with a list of several intervals",
+    ListLows: "neighbours in the drive's list with equal lows",
+    ListHighs: "neighbours in the drive's list with equal highs",
+    ListInside: "an interval inside the one behind it in the drive's list",
     SumAbove: "weights one above T, refused",
     Total: "a total of 10^18",
     T1000: "a T of 1,000",
@@ -38,6 +43,7 @@ borders! {
     T1023: "a T of 1,023, refused",
     Weight1023: "a weight of 1,023, refused",
     Speeds: "speeds 0 and 4,095 in one sheet",
+    Descending: "a sheet whose blocks descend as lists do, all else right, refused",
     DemandLow: "a demand at a low",
     DemandAboveLow: "a demand one above a low",
     DemandHigh: "a demand at a high",
@@ -95,6 +101,8 @@ borders! {
     SpeedZero: "a speed of 0",
     SpeedSum: "a speed above 4,095",
     SpeedShared: "a speed that is the low of several intervals",
+    SpeedFirst: "a speed that is the first of several lows",
+    SpeedLast: "a speed that is the last of several lows",
     Sheet256: "a sheet 256 bytes longer than its length byte says, refused",
     List: "a list buffer of 16,384 bytes",
     ListLess: "a list buffer of 16,383 bytes, refused",
@@ -110,6 +118,7 @@ borders! {
     RoomLess: "a sheet buffer one byte shorter, refused",
     Plan: "a plan buffer of 336 bytes",
     PlanLess: "a plan buffer of 335 bytes, refused",
+    PlanDescending: "a plan whose intervals descend as lists do, all else right, refused",
     PlanSumAbove: "a plan with weights one above T, refused",
     PlanSumLowBits: "a plan with weights whose sum's low 16 bits would be accepted, refused",
     LowBytes: "a plan that would be accepted if n, k and entries were bytes, refused",
@@ -163,6 +172,7 @@ impl Borders {
         self.met(Border::Weight1023, number == 8 && interval(|_, _, weight| weight == 1_023));
         let (stopped, fastest) = (interval(|low, _, _| low == 0), interval(|_, high, _| high == TOP_SPEED));
         self.met(Border::Speeds, number == 0 && stopped && fastest);
+        self.met(Border::Descending, number == 7 && rules::of_values(&plan.turned()) == 0);
     }
 
     /// A call of drive_bounds, drive_set or drive_speed that has to return this number.
@@ -277,6 +287,7 @@ impl Borders {
         self.met(Border::Choices262144, run.choices == INTERVALS.pow(COMPONENTS as u32) && !run.plan.has_rest());
         self.met(Border::Choices531441, run.choices == WITH_REST.pow(COMPONENTS as u32));
         self.of_rests(&run.plan);
+        self.of_list(run);
         self.met(Border::Total, run.total == 10u64.pow(18));
         match &question.asked {
             Asked::Demand(demand) => {
@@ -304,6 +315,19 @@ impl Borders {
         self.met(Border::RestListed, rest(lists_whole));
     }
 
+    /// What makes the list's order matter.
+    fn of_list(&mut self, run: &Run) {
+        let neighbours = |found: fn(&Focal, &Focal) -> bool| run.list.windows(2).any(|pair| found(&pair[0], &pair[1]));
+        self.met(Border::ListLows, neighbours(|one, next| one.low == next.low));
+        self.met(Border::ListHighs, neighbours(|one, next| one.high == next.high));
+        self.met(Border::ListInside, neighbours(|one, next| one.low > next.low && one.high < next.high));
+        if let [component] = run.plan.used() {
+            let between = run.list[0].low > 0 && run.list[run.list.len() - 1].high < TOP_SPEED.into();
+            self.met(Border::ListOfOne, run.list.len() > 1);
+            self.met(Border::RestBetween, component.rest() > 0 && !lists_whole(component) && between);
+        }
+    }
+
     /// Demands at a low, one above a low, at a high, and one above a high of the drive's list.
     fn of_demands(&mut self, list: &[Focal], demands: &[u32], at: [Border; 4]) {
         let [low, above_low, high, above_high] = at;
@@ -322,13 +346,16 @@ impl Borders {
         self.met(Border::TargetExact, met == 0 && target < TOP_TARGET);
         self.met(Border::TargetOver, large && 0 < met && met < 1_000);
         // Of the faster lows the next misses the target least.
-        if let Some(missed) = lows().find(|low| *low > speed).map(over) {
+        if let Some(missed) = lows().filter(|low| *low > speed).min().map(over) {
             self.met(Border::TargetRounded, missed > -1_000);
             self.met(Border::TargetUnder, large && missed > -1_000);
         }
         self.met(Border::SpeedZero, speed == 0);
         self.met(Border::SpeedSum, speed > TOP_SPEED.into());
         self.met(Border::SpeedShared, lows().filter(|low| *low == speed).count() > 1);
+        let (first, last) = (lows().next(), lows().last());
+        self.met(Border::SpeedFirst, first != last && first == Some(speed));
+        self.met(Border::SpeedLast, first != last && last == Some(speed));
     }
 
     /// A call of drive_write_sheet on a plan whose sheet needs `needed` bytes.
@@ -338,6 +365,7 @@ impl Borders {
         self.met(Border::RoomLess, number == 15 && room + 1 == needed);
         self.met(Border::Length, number == 0 && answer == LENGTH_BYTES);
         self.met(Border::LengthLess, number == 12 && answer + 1 == LENGTH_BYTES);
+        self.met(Border::PlanDescending, number == 7 && rules::of_plan(&plan.turned()) == 0);
         self.met(Border::PlanSumAbove, number == 8 && plan.used().iter().all(one_above));
         self.met(Border::PlanSumLowBits, number == 8 && plan.used().iter().all(low_bits_right));
         self.met(Border::LowBytes, matches!(number, 3 | 4 | 9) && rules::of_plan(&low_bytes(plan)) == 0);

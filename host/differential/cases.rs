@@ -186,7 +186,7 @@ fn nearest_low(run: &Run) -> Option<u32> {
         let over = 1_000 * u128::from(run.belief(*low)) % total;
         over.min(total - over)
     };
-    let lows = run.list.iter().map(|focal| focal.low).filter(|low| *low > run.list[0].low);
+    let lows = run.list.iter().map(|focal| focal.low).filter(|low| run.belief(*low) < run.total);
     lows.min_by_key(off)
 }
 

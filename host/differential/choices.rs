@@ -29,7 +29,7 @@ impl Focal {
         Focal { low: low.into(), high: high.into(), weight: weight.into() }
     }
 
-    /// Low, then high, as one number.
+    /// Low, then high, as one number: lists descend by it.
     fn key(&self) -> u64 {
         u64::from(self.low) << 32 | u64::from(self.high)
     }
@@ -142,14 +142,14 @@ fn of_component(component: &Component) -> Vec<Focal> {
 /// Puts an interval into a list, or adds its weight where the list has it already.
 #[inline]
 fn add(list: &mut Vec<Focal>, new: Focal) {
-    match list.binary_search_by_key(&new.key(), Focal::key) {
+    match list.binary_search_by(|focal| new.key().cmp(&focal.key())) {
         Ok(place) => list[place].weight += new.weight,
         Err(place) => list.insert(place, new),
     }
 }
 
-/// The intervals of a sub-structure in ascending order of low, then of high, each once, with the weights of all choices
-/// that give it.
+/// The intervals of a sub-structure in descending order of low, then of high, each once, with the weights of all
+/// choices that give it.
 fn list(components: &[Vec<Focal>], structure: &[u16]) -> Vec<Focal> {
     let mut list = Vec::new();
     let under: Vec<usize> =

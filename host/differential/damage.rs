@@ -29,6 +29,7 @@ pub fn break_plan(random: &mut Random, plan: &mut Plan, rule: u32, fields: &Fiel
         3 => plan.count = beyond(random, plan.count, COMPONENTS, fields.count),
         4 => component.count = beyond(random, component.count, INTERVALS, fields.count),
         6 => break_total(random, component, fields),
+        7 if random.chance(15) => *plan = plan.turned(), // the lists' order
         7 => break_interval(random, component, fields),
         8 => break_sum(random, component, fields),
         9 => break_entry(random, plan, fields),

@@ -84,6 +84,16 @@ impl Plan {
         plan
     }
 
+    /// The plan with the intervals of each component the other way round.
+    pub fn turned(&self) -> Plan {
+        let mut plan = *self;
+        for component in &mut plan.components[..self.used().len()] {
+            let k = component.used().len();
+            component.intervals[..k].reverse();
+        }
+        plan
+    }
+
     pub fn numbers(&self) -> Vec<u16> {
         let mut numbers = Vec::with_capacity(PLAN_NUMBERS);
         numbers.push(self.count);
