@@ -62,7 +62,8 @@
  *   entry      one step of the structure, which says how the modules are joined, on a stack: a module's number puts its list on the
  *              stack, a join's code takes the two topmost lists and puts their join back. n modules take 2n - 1 entries.
  *              "Module 0 or its spare, module 1; both in series with module 2" is 0, 1, SPARE, 2, SERIES.
- *   list       the intervals of the whole drive with their weights, in ascending order of low, then of high.
+ *   list       the intervals of the whole drive with their weights, in descending order of low, then of high: the fastest first.
+ *              Plans and sheets have a module's intervals the other way round, in ascending order.
  *   demand     a speed that is asked about; any 32-bit number.
  *   target     a share of the time that is asked about, in thousandths: 1 to 1,000.
  *   pairs      a join of lists of a and b intervals forms a times b pairs. The pair count is the sum of this over all joins.
@@ -102,12 +103,15 @@
 extern "C" {
 #endif
 
-/* The version of this header and of the library that it came with. The soname has the first number. Since 1.2.0: weights that add to
- * less than T leave a rest, and are no longer number 8; DRIVE_PAIRS_MAX was 66,688; drive_plan_rest is new. */
-#define DRIVE_VERSION_MAJOR 2
+/* The version of this header and of the library that it came with. The soname has the first number. What changed
+ *   from 2.0.0 to 3.0.0   the list stands in descending order of low, then of high, where it ascended: of n records, what was record i
+ *                         is record n - 1 - i, and no compiler says so. Plans, sheets, numbers and all other answers are the same
+ *   from 1.2.0 to 2.0.0   weights that add to less than T leave a rest, where they were number 8; DRIVE_PAIRS_MAX was 66,688;
+ *                         drive_plan_rest is new */
+#define DRIVE_VERSION_MAJOR 3
 #define DRIVE_VERSION_MINOR 0
 #define DRIVE_VERSION_PATCH 0
-#define DRIVE_VERSION "2.0.0"
+#define DRIVE_VERSION "3.0.0"
 
 /* The limits of a plan of edition one, and the codes of its joins. Edition two will have others. */
 #define DRIVE_MODULES_MAX 6
@@ -162,6 +166,8 @@ static inline uint64_t drive_read(const uint8_t *bytes, size_t count) {
  *   a number above 65,535       is stored as 65,535 (an entry as 65,534): number 6, 7, 8 or 9
  *   a seventh module            is counted and has no place: number 3. Its intervals have none either
  *   a ninth interval            is counted and has no place: number 4
+ *   an interval out of order,   is stored and counted: number 7
+ *     or given twice
  *   an interval of a module     has no place: number 3; the plan counts 65,535 modules from then on
  *     that was not added yet
  *   an entry beyond the 2n - 1  has no place, and entry 0 becomes 65,534: number 9
@@ -241,8 +247,9 @@ static inline uint32_t drive_plan_entry(uint8_t *plan, uint64_t entry) {
 }
 
 /* Reading a plan, as drive_read_sheet gives it: the number of modules; of a module its T, the number of its intervals, and
- * interval i; entry i of the 2n - 1. All are numbered from 0. What is not in the plan is 0 (an entry that is not added yet: 65,535).
- * Do not add entries to a plan that was read: its unused ones are 0 and count as set. Build another from what these answer. */
+ * interval i, in ascending order of low, then of high; entry i of the 2n - 1. All are numbered from 0. What is not in the plan is 0 (an
+ * entry that is not added yet: 65,535). Do not add entries to a plan that was read: its unused ones are 0 and count as set. Build
+ * another from what these answer. */
 static inline uint32_t drive_plan_modules(const uint8_t *plan) { return drive_plan_get(plan, DRIVE_AT_MODULES); }
 
 static inline uint32_t drive_plan_total(const uint8_t *plan, uint64_t module) {
@@ -333,8 +340,8 @@ uint32_t drive_read_sheet(const uint8_t *sheet, size_t sheet_length, uint8_t *pl
  *   answer, answer_length   the answer buffer: drive_read_answer
  *
  *   number      answer, first 40 bytes      list, first 16,384 bytes
- *   0           total, belief,              the drive's list in records of 12 bytes (low 16 bits, high 16 bits, weight 64 bits): see
- *               plausibility, pair count,   drive_read_interval; then zero
+ *   0           total, belief,              the drive's list, the fastest interval first, in records of 12 bytes (low 16 bits, high
+ *               plausibility, pair count,   16 bits, weight 64 bits): see drive_read_interval; then zero
  *               list length
  *   13, 14      zero                        zero
  *   1 to 12     zero                        unchanged
@@ -405,7 +412,8 @@ uint32_t drive_speed(const uint8_t *sheet, size_t sheet_length, uint32_t target,
     X(5, DRIVE_E_ZERO_BIT, "a bit of the sheet that must be zero is one") \
     X(6, DRIVE_E_TOTAL, "a module's total is not 1 to 1,000") \
     X(7, DRIVE_E_INTERVAL, \
-      "an interval has low above high, a speed above 4,095 or weight 0, or does not come strictly after the one before it") \
+      "an interval has low above high, a speed above 4,095 or weight 0, or does not come strictly after the one before it " \
+      "in ascending order of low, then of high") \
     X(8, DRIVE_E_WEIGHTS, "a module's weights add to more than its total") \
     X(9, DRIVE_E_ENTRY, "an entry is missing, is 6, 7 or above 10, or names a module not below n") \
     X(10, DRIVE_E_NAMED, "a module is named twice or never") \
@@ -482,8 +490,12 @@ static inline struct drive_speed_answer drive_read_speed_answer(const uint8_t *a
     return a;
 }
 
-/* Record i of the list buffer as values; i is below the list length. The list answers every demand: belief adds the weights whose
- * low is at least the demand, plausibility those whose high is. */
+/* Record i of the list buffer as values; i is below the list length. Record 0 has the greatest low: lows descend and, where lows are
+ * equal, highs. The list answers every demand: belief adds the weights whose low is at least the demand, plausibility those whose high
+ * is. Belief is a running sum from record 0 on, up to the first low below the demand or the last record (the zeros behind the list are
+ * no records). At the last record of each low it is the belief at that low. The low at which it first reaches a share, above 0 and at
+ * most the total, is the speed that can be promised for that share, compared exactly as by drive_speed. For plausibility take all
+ * records: the greatest high may be in any of them. */
 static inline struct drive_interval drive_read_interval(const uint8_t *list, size_t i) {
     const uint8_t *record = list + i * DRIVE_RECORD_BYTES;
     struct drive_interval r;

@@ -86,8 +86,8 @@ int main(int argc, char **argv) {
     }
     printf("As fractions: %" PRIu64 " and %" PRIu64 "\n          of  %" PRIu64 "\n\n", a.belief, a.plausibility, a.total);
 
-    printf("%zu modules, a sheet of %zu bytes, %" PRIu64 " pairs. The chair's speed in mm/s, %" PRIu64 " intervals:\n\n",
-           sizeof logs / sizeof *logs, bytes, a.pairs, a.intervals);
+    printf("%zu modules, a sheet of %zu bytes, %" PRIu64 " pairs. ", sizeof logs / sizeof *logs, bytes, a.pairs);
+    printf("The chair's speed in mm/s, %" PRIu64 " intervals by low, then by high, the fastest first:\n\n", a.intervals);
     for (uint64_t i = 0; i < a.intervals && i < lines; i++) {
         struct drive_interval r = drive_read_interval(list, (size_t)i);
         printf("  %4" PRIu32 " to %4" PRIu32 "  ", r.low, r.high);

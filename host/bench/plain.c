@@ -20,7 +20,7 @@ enum {
     TARGET_MAX = 1000
 };
 
-/* An interval with its weight. The key is low in the upper 16 bits and high in the lower 16, so that keys stand in list order. */
+/* An interval with its weight. The key is low in the upper 16 bits and high in the lower 16: keys compare by low, then by high. */
 struct focal {
     uint32_t key;
     uint64_t weight;
@@ -126,12 +126,12 @@ static unsigned read_sheet(const uint8_t *sheet, size_t length, struct plan *p) 
     return fault;
 }
 
-/* Adds f to a list in ascending order; 0 where the list is full. Joins spend their time here. */
+/* Adds f to a list in descending order; 0 where the list is full. Joins spend their time here. */
 static inline int insert(struct list *l, struct focal f) {
     unsigned from = 0, to = l->count;
     while (from < to) {
         unsigned middle = (from + to) / 2;
-        if (l->focal[middle].key < f.key)
+        if (l->focal[middle].key > f.key)
             from = middle + 1;
         else
             to = middle;
@@ -159,11 +159,11 @@ static uint32_t join_keys(unsigned entry, uint32_t x, uint32_t y) {
     }
 }
 
-/* A component's list: what is listed, and the rest on the interval from 0 to the greatest speed. */
+/* A component's list: what is listed, from the last to the first, and the rest on the interval from 0 to the greatest speed. */
 static void put_leaf(const struct component *c, struct list *out) {
     const struct focal rest = {SPEED_MAX, c->rest};
     out->count = c->count;
-    memcpy(out->focal, c->focal, c->count * sizeof rest);
+    for (unsigned i = 0; i < c->count; i++) out->focal[i] = c->focal[c->count - 1 - i];
     if (c->rest > 0) insert(out, rest);
 }
 
@@ -250,12 +250,11 @@ static uint64_t least_belief(uint32_t target, uint64_t total) {
     return target * (total / TARGET_MAX) + (target * (total % TARGET_MAX) + TARGET_MAX - 1) / TARGET_MAX;
 }
 
-/* The greatest demand with at least this belief, which is not above the total: the first such low from the fast end. */
+/* The greatest demand with at least this belief, which is not above the total: the first such low. */
 static uint32_t greatest_demand(const struct list *drive, uint64_t least) {
-    unsigned i = drive->count;
-    uint64_t belief = 0;
-    do belief += drive->focal[--i].weight;
-    while (belief < least);
+    unsigned i = 0;
+    uint64_t belief = drive->focal[0].weight;
+    while (belief < least) belief += drive->focal[++i].weight;
     return drive->focal[i].key >> 16;
 }
 

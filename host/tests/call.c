@@ -1,4 +1,5 @@
-/* The five calls on every number, with buffers too short, exact and too long, on the bench table and on rests. C and C++. */
+/* The five calls on every number, with buffers too short, exact and too long, on the bench table, on rests and on the order of lists
+ * and blocks. C and C++. */
 #include "common.h"
 
 /* One component. */
@@ -10,6 +11,18 @@ static struct plan one(struct component c) {
 /* A log of 940 hours of 1,000, and one that says of 25 others what the rest says of them: their lists are the same. */
 static const struct component part = {1000, 2, {{0, 0, 40}, {1200, 2000, 900}}};
 static const struct component part_added = {1000, 3, {{0, 0, 40}, {0, 4095, 25}, {1200, 2000, 900}}};
+
+/* Eight intervals, some with equal lows, and no rest. */
+static const struct component eight = {
+    36, 8, {{0, 0, 1}, {0, 5, 2}, {0, 9, 3}, {2, 2, 4}, {2, 9, 5}, {7, 7, 6}, {7, 8, 7}, {9, 9, 8}},
+};
+
+/* The component with its intervals the other way round. */
+static struct component reversed(struct component c) {
+    const struct component block = c;
+    for (unsigned i = 0; i < c.count; i++) c.focal[i] = block.focal[c.count - 1 - i];
+    return c;
+}
 
 /* Six modules with eight intervals and T 1,000 each, at the greatest speeds; all shared. */
 static struct plan longest(void) {
@@ -60,7 +73,7 @@ struct row {
     struct sheet sheet;
 };
 
-enum { ROWS = 22 };
+enum { ROWS = 24 };
 
 /* The rows, filled from the front. */
 struct rows {
@@ -103,6 +116,10 @@ static void add_rows(struct rows *rows) {
     add(rows, 7, 4, &p);
     p = good, p.component[1].focal[1] = p.component[1].focal[0];
     add(rows, 7, 4, &p);
+    p = two(reversed(A), B, DRIVE_ED1_SHARED); /* lows descend */
+    add(rows, 7, 4, &p);
+    p = two(A, reversed(B), DRIVE_ED1_SHARED); /* lows are equal, highs descend */
+    add(rows, 7, 4, &p);
     p = good, p.component[1].total = 2;
     add(rows, 8, 4, &p);
     for (unsigned i = 0; i < 4; i++) {
@@ -122,7 +139,7 @@ enum { LENGTHS = 6, LIST_ROOM = DRIVE_LIST_BYTES + 8192, ROOM = 4096 };
 
 /* Case P2 of the bench table at demand 3: the answers and the list. */
 static const uint64_t p2_answer[] = {12, 9, 10, 4, 4};
-static const struct drive_interval p2_list[] = {{1, 1, 2}, {1, 4, 1}, {3, 4, 6}, {3, 7, 3}};
+static const struct drive_interval p2_list[] = {{3, 7, 3}, {3, 4, 6}, {1, 4, 1}, {1, 1, 2}};
 
 static int list_is(const uint8_t *list, const struct drive_interval *want, size_t count) {
     for (size_t i = 0; i < count; i++) {
@@ -399,9 +416,9 @@ static const struct {
     {3, 0, 0}, {3, 0, 7}, {3, 0, 256 + 2}, {3, 0, 65535},
     {4, 1, 0}, {4, 27, 9}, {4, 27, 256 + 2}, {4, 1, 65535},
     {6, 2, 0}, {6, 28, 1001}, {6, 28, 1024 + 3}, {6, 2, 65535}, {8, 2, 3},
-    /* the second low and the second high of A and of B; weights */
+    /* the second low and the second high of A and of B, the first high of B; weights */
     {7, 4, 4}, {7, 30, 0}, {7, 4, 4096 + 2},
-    {7, 12, 4096}, {7, 38, 1}, {7, 12, 4096 + 3}, {7, 38, 65535},
+    {7, 12, 4096}, {7, 38, 1}, {7, 12, 4096 + 3}, {7, 38, 65535}, {7, 37, 5},
     {7, 20, 0}, {8, 20, 4}, {8, 19, 2}, {8, 19, 1024 + 1}, {8, 46, 65535},
     /* entries */
     {9, 159, 6}, {9, 159, 7}, {9, 159, 11}, {9, 159, 15}, {9, 159, 16}, {9, 158, 2}, {9, 158, 256 + 1}, {9, 159, 256 + 9},
@@ -504,6 +521,7 @@ static void bench_row(const char *name, struct plan p, uint32_t demand, uint32_t
     uint32_t got = drive_bounds(s.bytes, s.length, demand, allowance, list, sizeof list, answer, sizeof answer);
     EXPECT(got == number, "%s: number %u, not %u", name, got, number);
     EXPECT(values_are(drive_read_answer(answer), number == 0 ? want : zeros), "%s: the answer at demand %u", name, demand);
+    EXPECT(number != 0 || descends(list, want[4]), "%s: the order of the list", name);
     EXPECT(number != 0 || intervals == NULL || list_is(list, intervals, (size_t)want[4]), "%s: the list", name);
 
     uint8_t demands[2 * DRIVE_DEMAND_BYTES], shares[2 * DRIVE_SHARES_BYTES], others[DRIVE_SET_ANSWER_BYTES];
@@ -516,6 +534,7 @@ static void bench_row(const char *name, struct plan p, uint32_t demand, uint32_t
     if (number == 0) {
         EXPECT(holds_zeros(shares, 0, DRIVE_SHARES_BYTES), "%s: drive_set: the shares at the greatest demand", name);
         EXPECT(values_are(drive_read_shares(others, shares, 1), want), "%s: drive_set: the answer at demand %u", name, demand);
+        EXPECT(descends(list, want[4]), "%s: drive_set: the order of the list", name);
         EXPECT(intervals == NULL || list_is(list, intervals, (size_t)want[4]), "%s: drive_set: the list", name);
     } else {
         EXPECT(holds_zeros(others, 0, sizeof others), "%s: drive_set: the answer of a refusal", name);
@@ -524,9 +543,9 @@ static void bench_row(const char *name, struct plan p, uint32_t demand, uint32_t
 }
 
 static void test_bench_table(void) {
-    static const struct drive_interval p1[] = {{0, 0, 3}, {1, 1, 6}, {1, 3, 3}};
-    static const struct drive_interval p6[] = {{1, 1, 2}, {1, 4, 1}, {2, 3, 6}, {2, 4, 3}};
-    static const struct drive_interval p7[] = {{0, 4, 2000}, {0, 6, 5360}, {3, 8, 2211}, {7, 10, 429}};
+    static const struct drive_interval p1[] = {{1, 3, 3}, {1, 1, 6}, {0, 0, 3}};
+    static const struct drive_interval p6[] = {{2, 4, 3}, {2, 3, 6}, {1, 4, 1}, {1, 1, 2}};
+    static const struct drive_interval p7[] = {{7, 10, 429}, {3, 8, 2211}, {0, 6, 5360}, {0, 4, 2000}};
     static const uint64_t at_2[] = {12, 0, 3, 4, 3}, at_7[] = {12, 0, 3, 4, 4}, at_8[] = {12, 0, 0, 4, 4};
     static const uint64_t at_0[] = {12, 12, 12, 4, 4};
     static const uint64_t spare_at_2[] = {12, 9, 10, 4, 4}, w_at_7[] = {10000, 429, 2640, 6, 4}, d4[] = {256, 56, 56, 320, 256};
@@ -566,6 +585,7 @@ static uint64_t speed_at(const struct sheet *s, uint32_t target) {
                        sizeof bounds_answer);
     EXPECT(got == 0 && memcmp(answer, bounds_answer, sizeof bounds_answer) == 0, "target %u: other answers at the speed", target);
     EXPECT(memcmp(list, bounds_list, sizeof list) == 0, "target %u: another list", target);
+    EXPECT(descends(list, drive_read_answer(answer).intervals), "target %u: the order of the list", target);
     EXPECT(meets(drive_read_answer(bounds_answer), target), "target %u: the belief is below it", target);
 
     got = drive_bounds(s->bytes, s->length, (uint32_t)speed + 1, DRIVE_PAIRS_MAX, bounds_list, sizeof bounds_list, bounds_answer,
@@ -632,7 +652,7 @@ static void test_rest_lists(void) {
         {1000, 1000, 1000, 0, 3}, {1000, 900, 960, 0, 3}, {1000, 900, 960, 0, 3}, {1000, 0, 960, 0, 3},
         {1000, 0, 960, 0, 3},     {1000, 0, 60, 0, 3},    {1000, 0, 60, 0, 3},    {1000, 0, 0, 0, 3},
     };
-    static const struct drive_interval part_list[] = {{0, 0, 40}, {0, 4095, 60}, {1200, 2000, 900}};
+    static const struct drive_interval part_list[] = {{1200, 2000, 900}, {0, 4095, 60}, {0, 0, 40}};
     for (unsigned i = 0; i < 8; i++) {
         bench_row("940 of 1,000", one(part), demands[i], 0, 0, part_answers[i], part_list);
         bench_row("940 of 1,000 and 25 that are listed", one(part_added), demands[i], 0, 0, part_answers[i], part_list);
@@ -644,19 +664,19 @@ static void test_rest_lists(void) {
     static const struct component any = {
         9, 8, {{0, 0, 1}, {0, 4095, 1}, {1, 1, 1}, {2, 2, 1}, {3, 3, 1}, {4, 4, 1}, {5, 5, 1}, {6, 6, 1}},
     };
-    static const struct drive_interval first[] = {{0, 4095, 1}, {1, 1, 1}, {2, 2, 1}, {3, 3, 1}, {4, 4, 1},
-                                                  {5, 5, 1},    {6, 6, 1}, {7, 7, 1}, {8, 8, 1}};
-    static const struct drive_interval second[] = {{0, 0, 1}, {0, 4095, 1}, {1, 1, 1}, {2, 2, 1}, {3, 3, 1},
-                                                   {4, 4, 1}, {5, 5, 1},    {6, 6, 1}, {7, 7, 1}};
-    static const struct drive_interval last[] = {{0, 1, 1}, {0, 2, 1}, {0, 3, 1}, {0, 4, 1},   {0, 5, 1},
-                                                 {0, 6, 1}, {0, 7, 1}, {0, 8, 1}, {0, 4095, 1}};
-    static const struct drive_interval added[] = {{0, 0, 1}, {0, 4095, 2}, {1, 1, 1}, {2, 2, 1},
-                                                  {3, 3, 1}, {4, 4, 1},    {5, 5, 1}, {6, 6, 1}};
+    static const struct drive_interval last[] = {{8, 8, 1}, {7, 7, 1}, {6, 6, 1}, {5, 5, 1},   {4, 4, 1},
+                                                 {3, 3, 1}, {2, 2, 1}, {1, 1, 1}, {0, 4095, 1}};
+    static const struct drive_interval eighth[] = {{7, 7, 1}, {6, 6, 1}, {5, 5, 1},    {4, 4, 1}, {3, 3, 1},
+                                                   {2, 2, 1}, {1, 1, 1}, {0, 4095, 1}, {0, 0, 1}};
+    static const struct drive_interval first[] = {{0, 4095, 1}, {0, 8, 1}, {0, 7, 1}, {0, 6, 1}, {0, 5, 1},
+                                                  {0, 4, 1},    {0, 3, 1}, {0, 2, 1}, {0, 1, 1}};
+    static const struct drive_interval added[] = {{6, 6, 1}, {5, 5, 1}, {4, 4, 1},    {3, 3, 1},
+                                                  {2, 2, 1}, {1, 1, 1}, {0, 4095, 2}, {0, 0, 1}};
     static const uint64_t at_1[][5] = {{9, 8, 9, 0, 9}, {9, 7, 8, 0, 9}, {9, 0, 9, 0, 9}, {9, 6, 8, 0, 8}};
     static const uint64_t nines[] = {81, 0, 16, 81, 81};
-    bench_row("eight and the rest before them", one(nine(1, 1)), 1, 0, 0, at_1[0], first);
-    bench_row("eight and the rest among them", one(nine(0, 1)), 1, 0, 0, at_1[1], second);
-    bench_row("eight and the rest behind them", one(from_0), 1, 0, 0, at_1[2], last);
+    bench_row("eight and the rest behind them", one(nine(1, 1)), 1, 0, 0, at_1[0], last);
+    bench_row("eight and the rest among them", one(nine(0, 1)), 1, 0, 0, at_1[1], eighth);
+    bench_row("eight and the rest before them", one(from_0), 1, 0, 0, at_1[2], first);
     bench_row("eight and the rest in one of them", one(any), 1, 0, 0, at_1[3], added);
     bench_row("nine with nine, allowance 81", two(nine(0, 1), nine(8, 8), DRIVE_ED1_SHARED), 4096, 81, 0, nines, NULL);
     bench_row("nine with nine, allowance 80", two(nine(0, 1), nine(8, 8), DRIVE_ED1_SHARED), 4096, 80, 13, NULL, NULL);
@@ -666,9 +686,9 @@ static void test_rest_lists(void) {
 /* Rests in joins of each kind, as intervals that form pairs; rests of all but 1 of 1,000. */
 static void test_rest_joins(void) {
     static const struct component a = {5, 2, {{0, 0, 1}, {2, 3, 3}}}; /* A with a rest of 1 */
-    static const struct drive_interval series[] = {{0, 0, 3}, {0, 1, 2}, {0, 4, 1}, {1, 1, 6}, {1, 3, 3}};
-    static const struct drive_interval shared[] = {{1, 1, 2}, {1, 4, 1}, {1, 4096, 2}, {1, 4099, 1}, {3, 4, 6}, {3, 7, 3}};
-    static const struct drive_interval spare[] = {{1, 1, 2}, {1, 4, 1}, {1, 4095, 3}, {2, 3, 6}, {2, 4, 3}};
+    static const struct drive_interval series[] = {{1, 3, 3}, {1, 1, 6}, {0, 4, 1}, {0, 1, 2}, {0, 0, 3}};
+    static const struct drive_interval shared[] = {{3, 7, 3}, {3, 4, 6}, {1, 4099, 1}, {1, 4096, 2}, {1, 4, 1}, {1, 1, 2}};
+    static const struct drive_interval spare[] = {{2, 4, 3}, {2, 3, 6}, {1, 4095, 3}, {1, 4, 1}, {1, 1, 2}};
     static const uint64_t series_at_2[] = {15, 0, 4, 6, 5}, shared_at_3[] = {15, 9, 13, 6, 6}, spare_at_4[] = {15, 0, 7, 6, 5};
     bench_row("a rest in series", two(a, B, DRIVE_ED1_SERIES), 2, 6, 0, series_at_2, series);
     bench_row("a rest in a shared join", two(a, B, DRIVE_ED1_SHARED), 3, 6, 0, shared_at_3, shared);
@@ -679,10 +699,10 @@ static void test_rest_joins(void) {
     bench_row("D1, D2, D3 with 4 and a rest, allowance 383", d, 0, 383, 13, NULL, NULL);
 
     static const struct component hour = {1000, 1, {{5, 9, 1}}};
-    static const struct drive_interval hour_list[] = {{0, 4095, 999}, {5, 9, 1}};
+    static const struct drive_interval hour_list[] = {{5, 9, 1}, {0, 4095, 999}};
     static const struct drive_interval six_hours[] = {
-        {0, 24570, 994014980014994001u}, {5, 20484, 5970059940029994u}, {10, 16398, 14940089940015u}, {15, 12312, 19940059980u},
-        {20, 8226, 14970015u},           {25, 4140, 5994},              {30, 54, 1},
+        {30, 54, 1},                  {25, 4140, 5994},              {20, 8226, 14970015u},           {15, 12312, 19940059980u},
+        {10, 16398, 14940089940015u}, {5, 20484, 5970059940029994u}, {0, 24570, 994014980014994001u},
     };
     static const uint64_t hour_at_5[] = {1000, 1, 1000, 0, 2}, hour_at_10[] = {1000, 0, 999, 0, 2};
     static const uint64_t six_at_5[] = {1000000000000000000u, 5985019985005999u, 1000000000000000000u, 40, 7};
@@ -752,6 +772,96 @@ static void test_sums(void) {
     finish("number 8: sums one above T, at T and one below, by every call");
 }
 
+/* One module's list is its block the other way round, with the rest in its place of that order. */
+static void test_leaf_order(void) {
+    static const struct drive_interval w0[] = {{7, 10, 13}, {3, 8, 67}, {0, 4, 20}}, equal_lows[] = {{1, 4, 1}, {1, 1, 2}};
+    static const struct drive_interval whole[] = {{9, 9, 8}, {7, 8, 7}, {7, 7, 6}, {2, 9, 5},
+                                                  {2, 2, 4}, {0, 9, 3}, {0, 5, 2}, {0, 0, 1}};
+    static const struct drive_interval rest[] = {{9, 9, 8},    {7, 8, 7}, {7, 7, 6}, {2, 9, 5}, {2, 2, 4},
+                                                 {0, 4095, 4}, {0, 9, 3}, {0, 5, 2}, {0, 0, 1}};
+    static const uint64_t w0_at_7[] = {100, 13, 80, 0, 3}, equal_at_2[] = {3, 0, 1, 0, 2};
+    static const uint64_t whole_at_7[] = {36, 21, 29, 0, 8}, rest_at_7[] = {40, 21, 33, 0, 9};
+    struct component with_rest = eight;
+    with_rest.total = 40;
+    bench_row("three intervals", one(W0), 7, 0, 0, w0_at_7, w0);
+    bench_row("two intervals with one low", one(B), 2, 0, 0, equal_at_2, equal_lows);
+    bench_row("eight intervals", one(eight), 7, 0, 0, whole_at_7, whole);
+    bench_row("eight intervals and a rest", one(with_rest), 7, 0, 0, rest_at_7, rest);
+    finish("the order: one module's list, its block the other way round");
+}
+
+/* A block that descends, as a whole or in one place, is refused with 7 by every call. */
+static void test_block_order(void) {
+    const struct component blocks[] = {A, B, W0, W1, part, part_added, eight};
+    for (size_t i = 0; i < sizeof blocks / sizeof *blocks; i++) {
+        all_calls("a block that ascends", one(blocks[i]), 0);
+        all_calls("a block that descends", one(reversed(blocks[i])), 7);
+    }
+    for (unsigned i = 0; i + 1 < eight.count; i++) {
+        struct component c = eight;
+        c.focal[i] = eight.focal[i + 1];
+        c.focal[i + 1] = eight.focal[i];
+        all_calls("a block that descends in one place", one(c), 7);
+    }
+    for (unsigned i = 0; i < DRIVE_MODULES_MAX; i++) {
+        struct plan p = longest();
+        p.component[i] = reversed(p.component[i]);
+        all_calls("one of six blocks descends", p, 7);
+    }
+    finish("the order: blocks that descend, number 7 by every call");
+}
+
+/* The belief at a demand: the weights from the front, up to the first low below the demand or the last record. */
+static uint64_t belief_from_front(const uint8_t *list, uint64_t intervals, uint32_t demand) {
+    uint64_t belief = 0;
+    for (size_t i = 0; i < intervals && drive_read_interval(list, i).low >= demand; i++) belief += drive_read_interval(list, i).weight;
+    return belief;
+}
+
+static void same_belief(const struct sheet *s, const uint8_t *list, uint64_t intervals, uint32_t demand) {
+    static uint8_t other[DRIVE_LIST_BYTES], answer[DRIVE_ANSWER_BYTES];
+    uint32_t got = drive_bounds(s->bytes, s->length, demand, DRIVE_PAIRS_MAX, other, sizeof other, answer, sizeof answer);
+    EXPECT(got == 0 && drive_read_answer(answer).belief == belief_from_front(list, intervals, demand), "the sum at demand %u", demand);
+}
+
+/* What the header says of a list's weights, added up from the front: they are the belief at each demand, at the last record of each low
+ * the belief at that low, and they reach a target at the low that drive_speed answers. */
+static void sums_from_front(const struct plan *p) {
+    static uint8_t list[DRIVE_LIST_BYTES], other[DRIVE_LIST_BYTES], answer[DRIVE_SPEED_ANSWER_BYTES];
+    static const uint32_t targets[] = {1, 250, 500, 750, 999, DRIVE_TARGET_MAX};
+    enum { ASKED = sizeof targets / sizeof *targets };
+    struct sheet s = make_sheet(p);
+    uint32_t got = drive_bounds(s.bytes, s.length, 0, DRIVE_PAIRS_MAX, list, sizeof list, answer, sizeof answer);
+    struct drive_answer sum = drive_read_answer(answer);
+    unsigned reached = 0;
+    EXPECT(got == 0, "number %u", got);
+    sum.belief = 0;
+    for (size_t i = 0; i < sum.intervals; i++) {
+        struct drive_interval r = drive_read_interval(list, i);
+        sum.belief += r.weight;
+        for (; reached < ASKED && meets(sum, targets[reached]); reached++) {
+            got = drive_speed(s.bytes, s.length, targets[reached], DRIVE_PAIRS_MAX, other, sizeof other, answer, sizeof answer);
+            EXPECT(got == 0 && drive_read_speed_answer(answer).speed == r.low, "target %u is reached at %u", targets[reached], r.low);
+        }
+        if (i + 1 < sum.intervals && drive_read_interval(list, i + 1).low == r.low) continue;
+        got = drive_bounds(s.bytes, s.length, r.low, DRIVE_PAIRS_MAX, other, sizeof other, answer, sizeof answer);
+        EXPECT(got == 0 && drive_read_answer(answer).belief == sum.belief, "the sum up to record %zu, low %u", i, r.low);
+        same_belief(&s, list, sum.intervals, r.low + 1);
+    }
+    same_belief(&s, list, sum.intervals, 0);
+    same_belief(&s, list, sum.intervals, UINT32_MAX);
+    EXPECT(reached == ASKED && sum.belief == sum.total, "the sum of all records");
+}
+
+static void test_sums_from_front(void) {
+    const struct plan plans[] = {
+        two(W0, W1, DRIVE_ED1_SERIES), two(A, B, DRIVE_ED1_SHARED), three(4), six(50, 1, DRIVE_ED1_SPARE, DRIVE_ED1_SERIES),
+        longest(), widest(), one(part), one(eight), two(eight, nine(1, 1), DRIVE_ED1_SPARE), most_pairs(),
+    };
+    for (size_t i = 0; i < sizeof plans / sizeof *plans; i++) sums_from_front(&plans[i]);
+    finish("the order: beliefs and speeds from the front of the list");
+}
+
 /* drive_set against drive_bounds at each demand: the same answers, the same list. Of two demands the greater never has more. */
 static void set_at(const struct sheet *s, const uint32_t *demands, size_t count) {
     static uint8_t list[DRIVE_LIST_BYTES], bounds_list[DRIVE_LIST_BYTES], bounds_answer[DRIVE_ANSWER_BYTES];
@@ -767,6 +877,7 @@ static void set_at(const struct sheet *s, const uint32_t *demands, size_t count)
     EXPECT(got == 0, "%zu demands: number %u", count, got);
     EXPECT(holds_marks(shares, count * DRIVE_SHARES_BYTES, sizeof shares), "%zu demands: bytes behind the last pair", count);
     EXPECT(holds_marks(answer, DRIVE_SET_ANSWER_BYTES, sizeof answer), "%zu demands: bytes behind the answer", count);
+    EXPECT(descends(list, drive_read_shares(answer, shares, 0).intervals), "%zu demands: the order of the list", count);
 
     for (size_t i = 0; i < count; i++) {
         got = drive_bounds(s->bytes, s->length, demands[i], DRIVE_PAIRS_MAX, bounds_list, sizeof bounds_list, bounds_answer,
@@ -870,6 +981,9 @@ int main(void) {
     test_rest_joins();
     test_rest_speeds();
     test_sums();
+    test_leaf_order();
+    test_block_order();
+    test_sums_from_front();
     test_speeds();
     test_sets();
     test_ends();

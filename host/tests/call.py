@@ -181,7 +181,7 @@ def late_refusal(components, entries, allowance):
 
 
 def outcomes_of(sheet, allowance):
-    """The number, and, where that is 0, total, pair count and the list, from the sum over all choices."""
+    """The number, and, where that is 0, total, pair count and the list, the fastest first, from the sum over all choices."""
     number, plan = read_sheet(sheet)
     if number == 0:
         components, entries = plan
@@ -192,7 +192,7 @@ def outcomes_of(sheet, allowance):
     for choice in itertools.product(*map(leaf, components)):
         lows, highs, weights = zip(*choice)
         outcomes[joined(entries, lows), joined(entries, highs)] += prod(weights)
-    records = sorted((low, high, weight) for (low, high), weight in outcomes.items())
+    records = sorted(((low, high, weight) for (low, high), weight in outcomes.items()), reverse=True)
     return 0, prod(total for total, _ in components), pairs, records
 
 
@@ -278,7 +278,7 @@ def round_trip(sheet):
 
 
 def random_sheet(r):
-    """A sheet with few choices and rests: valid, or with another T, other entries or some bits changed."""
+    """A sheet with few choices and rests: valid, or with another T, a block that descends, other entries or some bits changed."""
     n, fastest, components = r.randint(1, 6), r.choice([3, 20, 300, 4095]), []
     for _ in range(n):
         ends = {tuple(sorted((r.randint(0, fastest), r.randint(0, fastest)))) for _ in range(r.randint(1, 8 if n < 4 else 4))}
@@ -297,6 +297,8 @@ def random_sheet(r):
             depth -= 1
     if r.random() < 0.05:
         components[0] = (r.choice([0, 1001, 1023, components[0][0] - rest_of(components[0]) - 1]), components[0][1])
+    if r.random() < 0.05:
+        components[-1][1].reverse()
     if r.random() < 0.05:
         r.shuffle(entries)
     sheet = bytearray(make_sheet(components, entries))
@@ -324,7 +326,7 @@ def random_demands(r, outcomes):
 def main():
     w = make_sheet([(100, [(0, 4, 20), (3, 8, 67), (7, 10, 13)]), (100, [(0, 6, 67), (8, 10, 33)])], [0, 1, SERIES])
     outcomes = outcomes_of(w, 6)
-    assert outcomes == (0, 10000, 6, [(0, 4, 2000), (0, 6, 5360), (3, 8, 2211), (7, 10, 429)])
+    assert outcomes == (0, 10000, 6, [(7, 10, 429), (3, 8, 2211), (0, 6, 5360), (0, 4, 2000)])
     assert bounds_of(outcomes, 7) == (0, [10000, 429, 2640, 6, 4]) and speed_of(outcomes, 42) == (0, [10000, 429, 2640, 6, 4, 7])
     compare(drive_bounds, w, 7, 6, outcomes, bounds_of(outcomes, 7))
     for target in 0, 1, 42, 43, 264, 265, 1000, 1001, 2**32 - 1:
@@ -349,12 +351,16 @@ def main():
     assert write(plan[:-1]) == (12, b"\xee" * (SHEET_BYTES + 16), b"\xee" * 24), "a short plan"
     assert write(plan, answer_length=7) == (12, b"\xee" * (SHEET_BYTES + 16), b"\xee" * 23), "a short answer buffer"
     assert write(bytes(PLAN_BYTES)) == (3, b"\xee" * (SHEET_BYTES + 16), bytes(8) + b"\xee" * 16), "an empty plan"
-    print("ok Python: one sheet, short buffers, null pointers")
+    for focal, number in ([(0, 4, 20), (0, 6, 80)], 0), ([(0, 6, 80), (0, 4, 20)], 7), ([(3, 8, 20), (0, 6, 80)], 7):
+        component = 100, focal
+        assert read_sheet(make_sheet([component], [0]))[0] == write(make_plan([component], [0]))[0] == number, "a block's order"
+        round_trip(make_sheet([component], [0]))
+    print("ok Python: one sheet, short buffers, null pointers, the order of a block")
 
     part = make_sheet([(1000, [(0, 0, 40), (1200, 2000, 900)])], [0])
-    records = "0000 0000 0000000000000028  0000 0FFF 000000000000003C  04B0 07D0 0000000000000384"
+    records = "04B0 07D0 0000000000000384  0000 0FFF 000000000000003C  0000 0000 0000000000000028"
     outcomes = outcomes_of(part, 0)
-    assert outcomes == (0, 1000, 0, [(0, 0, 40), (0, 4095, 60), (1200, 2000, 900)])
+    assert outcomes == (0, 1000, 0, [(1200, 2000, 900), (0, 4095, 60), (0, 0, 40)])
     assert list_bytes(0, outcomes[3]) == bytes.fromhex(records).ljust(LIST_BYTES, b"\0")
     for demand, shares in (0, [1000, 1000]), (1, [900, 960]), (1201, [0, 960]), (2001, [0, 60]), (4096, [0, 0]):
         assert bounds_of(outcomes, demand)[1] == [1000, *shares, 0, 3]

@@ -34,6 +34,9 @@ const W: [u8; 30] = [
     0x01, 0x80,
 ];
 
+/// One module: T 2, from 5 to 8 and from 5 to 9, weight 1 each.
+const ONE: [u8; 14] = [0x11, 0x0E, 0x20, 0x02, 0x00, 0x50, 0x08, 0x00, 0x40, 0x14, 0x02, 0x40, 0x10, 0x00];
+
 fn call(sheet: &[u8], demand: u32, allowance: u32, list: &mut [u8], answer: &mut [u8]) -> u32 {
     // Safety: three slices that do not overlap, each with its own length.
     unsafe {
@@ -113,10 +116,13 @@ fn main() {
 
     assert_eq!(call(&W, 7, 6, &mut list, &mut answer), 0);
     assert_eq!(answers(&answer[..ANSWER_BYTES]), [10000, 429, 2640, 6, 4]);
-    assert_eq!(records(&list[..48]), [(0, 4, 2000), (0, 6, 5360), (3, 8, 2211), (7, 10, 429)]);
+    assert_eq!(records(&list[..48]), [(7, 10, 429), (3, 8, 2211), (0, 6, 5360), (0, 4, 2000)]);
     assert!(list[48..LIST_BYTES].iter().all(|byte| *byte == 0));
     assert!(list[LIST_BYTES..].iter().chain(&answer[ANSWER_BYTES..]).all(|byte| *byte == 0xEE));
-    println!("ok Rust: an accepted call");
+    assert_eq!(call(&ONE, 9, 0, &mut list, &mut answer), 0);
+    assert_eq!(answers(&answer[..ANSWER_BYTES]), [2, 0, 1, 0, 2]);
+    assert_eq!(records(&list[..24]), [(5, 9, 1), (5, 8, 1)]);
+    println!("ok Rust: accepted calls");
 
     assert_eq!(call(&W, 7, 5, &mut list, &mut answer), 13);
     assert!(list[..LIST_BYTES].iter().chain(&answer[..ANSWER_BYTES]).all(|byte| *byte == 0));
@@ -219,7 +225,7 @@ fn main() {
     (other[3], plan[5]) = (110, 110);
     assert_eq!(call(&other, 7, 8, &mut list, &mut answer), 0);
     assert_eq!(answers(&answer[..ANSWER_BYTES]), [11000, 429, 2970, 8, 5]);
-    assert_eq!(records(&list[..60]), [(0, 4, 2000), (0, 6, 6030), (0, 10, 330), (3, 8, 2211), (7, 10, 429)]);
+    assert_eq!(records(&list[..60]), [(7, 10, 429), (3, 8, 2211), (0, 10, 330), (0, 6, 6030), (0, 4, 2000)]);
     assert!(list[60..LIST_BYTES].iter().all(|byte| *byte == 0));
     assert_eq!(set(&other, &[0, 3], 0, 8, &mut list, &mut shares, &mut answer), 0);
     assert_eq!(answers(&shares[..32]), [11000, 11000, 2640, 11000]);

@@ -148,6 +148,15 @@ static inline uint32_t greatest_high(const uint8_t *list, uint64_t intervals) {
     return greatest;
 }
 
+/* Whether a list stands in descending order of low, then of high, no interval twice. */
+static inline int descends(const uint8_t *list, uint64_t intervals) {
+    for (size_t i = 1; i < intervals && i < DRIVE_LIST_INTERVALS_MAX; i++) {
+        struct drive_interval before = drive_read_interval(list, i - 1), r = drive_read_interval(list, i);
+        if (r.low > before.low || (r.low == before.low && r.high >= before.high)) return 0;
+    }
+    return intervals <= DRIVE_LIST_INTERVALS_MAX;
+}
+
 /* The bench table's D1, D2 and the first `third` speeds of D3: third times 64 speeds, evenly spaced. */
 static inline struct plan three(unsigned third) {
     static const uint16_t entry[5] = {0, 1, DRIVE_ED1_SHARED, 2, DRIVE_ED1_SHARED};

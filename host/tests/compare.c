@@ -18,7 +18,7 @@ static unsigned between(unsigned from, unsigned to) { return from + random_below
 
 static int after(struct focal x, struct focal y) { return x.low > y.low || (x.low == y.low && x.high > y.high); }
 
-/* Different intervals of speeds up to `fastest`, in order, sometimes with the one that a rest is on. The weights add to the total or,
+/* Different intervals of speeds up to `fastest`, in ascending order, sometimes with the one that a rest is on. The weights add to the total or,
  * where there may be rests, often to less. */
 static struct component random_component(unsigned fastest, int rests) {
     struct component c;
