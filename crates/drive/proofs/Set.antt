@@ -9,7 +9,7 @@ use Rattle.numbers.specs.Numbers.{bigEndian}
 use Rattle.numbers.proofs.Numbers.{length-bigEndian, read-front, read-behind}
 use Rattle.plan.proofs.Numbers.{first-in-front}
 use Rattle.evaluate.specs.declared.SheetRun.{SheetRun}
-use Rattle.evaluate.specs.Set.{demandTests, setAnswer, setStoreAfter, sharesAfter}
+use Rattle.evaluate.specs.Set.{setAnswer, setStoreAfter, sharesAfter}
 use Rattle.evaluate.specs.Demands.{by-test}
 use Rattle.evaluate.proofs.SetMet.{set-met, set-answer-fits}
 use Rattle.wire.specs.Demands.{demandsIn}
@@ -42,7 +42,7 @@ module _ (sheet demands : List ℕ) (allowance : ℕ) (list shares buffer : List
     too-short = λ h.
         let way = too-short h in
         let met = set-met sheet (demandsIn demands) allowance [] [] in
-        (short-call (λ k l f. way .0 ∙ met .first .refused-by k l .1 (by-test (first-in-front f (demandTests (length (demandsIn demands)) 0)))) (way .1) (way .3), way .2);
+        (short-call (λ k l f. way .0 ∙ met .first .refused-by k l .1 (by-test (first-in-front f _))) (way .1) (way .3), way .2);
     long-enough = λ h.
         let way = long-enough h in
         let r : SheetRun = setAnswer sheet (demandsIn demands) allowance (length list) (length shares) in

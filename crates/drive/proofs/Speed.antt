@@ -10,7 +10,7 @@ use Rattle.numbers.specs.Numbers.{bigEndian}
 use Rattle.numbers.proofs.Numbers.{length-bigEndian, read-front, read-past}
 use Rattle.plan.proofs.Numbers.{first-in-front}
 use Rattle.evaluate.specs.declared.SpeedAnswer.{SpeedAnswer}
-use Rattle.evaluate.specs.Speed.{targetTests, speedAnswer, speedStoreAfter}
+use Rattle.evaluate.specs.Speed.{speedAnswer, speedStoreAfter}
 use Rattle.evaluate.specs.Demands.{by-test}
 use Rattle.evaluate.proofs.SpeedMet.{speed-met, speed-answer-fits}
 use Rattle.drive.specs.Call.{answerBytes, encodeAnswer}
@@ -41,7 +41,7 @@ module _ (sheet : List ℕ) (target allowance : ℕ) (list buffer : List ℕ) wh
   speed-call = record {
     too-short = λ h.
         let way = too-short h in
-        short-call (λ k l f. way .0 ∙ speed-met sheet target allowance [] .first .refused-by k l .1 (by-test (first-in-front f (targetTests target)))) (way .1) (way .2);
+        short-call (λ k l f. way .0 ∙ speed-met sheet target allowance [] .first .refused-by k l .1 (by-test (first-in-front f _))) (way .1) (way .2);
     long-enough = λ h.
         let way = long-enough h in
         let p : SpeedAnswer = speedAnswer sheet target allowance (length list) in

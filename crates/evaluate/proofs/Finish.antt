@@ -24,8 +24,8 @@ use Rattle.theory.proofs.Method.{image, evaluate-lists, evaluate-refused, Leave
 use Rattle.theory.proofs.Totals.{fits-drive, total-positive}
 use Rattle.queries.specs.declared.Shares.{Shares}
 use Rattle.records.specs.Records.{records, Storable}
-use Rattle.queries.specs.Shares.{sharesOf, sharesBytes, encodeShares, encodeSet, Readable}
-use Rattle.queries.specs.Speed.{ValidTarget}
+use Rattle.queries.specs.Shares.{sharesOf, sharesBytes, encodeShares, encodeSet, demandTests, Readable}
+use Rattle.queries.specs.Speed.{targetTests, ValidTarget}
 use Rattle.records.proofs.Records.{length-encode}
 use Rattle.records.specs.Store.{settled}
 use Rattle.records.proofs.Store.{settled-list}
@@ -45,8 +45,7 @@ use Rattle.evaluate.specs.declared.SheetRun.{SheetRun}
 use Rattle.evaluate.specs.Answer.{planOf, components, structure, sheetOutcomes, sheetList, callTests, evaluated, answerOf}
 use Rattle.evaluate.specs.Store.{isLate, storeBy}
 use Rattle.evaluate.specs.SheetRun.{numberThen, refusedRun, sheetRunOf, answerFrom, endingAt, storeAt, sheetRun, storeThen}
-use Rattle.evaluate.specs.Speed.{targetTests}
-use Rattle.evaluate.specs.Set.{demandTests, sharesBy}
+use Rattle.evaluate.specs.Set.{sharesBy}
 use Rattle.evaluate.proofs.Numbers.{tests-say, number-passed, own-passed, number-early, Ended, tested, stopped, passed, ended}
 
 -- ---- a completed evaluation has formed no more pairs than the allowance

@@ -21,13 +21,13 @@ use Rattle.theory.proofs.Collect.{where-le, where-collect}
 use Rattle.numbers.specs.Numbers.{numberAt}
 use Rattle.plan.specs.Tests.{firstBroken, outside, Unbroken}
 use Rattle.plan.proofs.Tests.{within, beyond, not-outside}
-use Rattle.queries.specs.Shares.{sharesOf, sharesBytes, encodeShares, encodeSet}
+use Rattle.queries.specs.Shares.{sharesOf, sharesBytes, encodeShares, encodeSet, demandTests}
 use Rattle.queries.proofs.Encoding.{length-set, belief-read, plausibility-read, at-place}
 use Rattle.evaluate.specs.declared.SheetRun.{SheetRun}
 use Rattle.evaluate.specs.Answer.{sheetOutcomes, sheetList, callTests, ending, answer}
 use Rattle.evaluate.specs.Store.{storeAfter}
 use Rattle.evaluate.specs.SheetRun.{refusedRun, sheetRunOf, endingAt, storeAt, withoutShares}
-use Rattle.evaluate.specs.Set.{demandTests, setTests, sharesBy}
+use Rattle.evaluate.specs.Set.{setTests, sharesBy}
 use Rattle.evaluate.specs.Demands.{Passed, Demand-1, setAnswered, setStore, sharesThen, Place, demandOf, beliefOf, plausibilityOf, SetMet}
 use Rattle.evaluate.proofs.Finish.{drive-fits, shares-refused}
 use Rattle.evaluate.proofs.Numbers.{set-numbered, answer-is, store-is, set-answer-is, set-store-is, shares-is}

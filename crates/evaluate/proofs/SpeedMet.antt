@@ -22,12 +22,13 @@ use Rattle.plan.specs.Tests.{firstBroken, outside, Unbroken}
 use Rattle.plan.specs.Valid.{Valid}
 use Rattle.plan.proofs.Tests.{beyond}
 use Rattle.plan.proofs.Numbers.{none-broken}
+use Rattle.queries.specs.Speed.{targetTests}
 use Rattle.evaluate.specs.declared.Answer.{Answer}
 use Rattle.evaluate.specs.declared.SpeedAnswer.{SpeedAnswer}
 use Rattle.evaluate.specs.Answer.{planOf, components, structure, sheetList, callTests, ending, refusal, answerOf, answerWith, answer}
 use Rattle.evaluate.specs.Store.{storeAfter}
 use Rattle.evaluate.specs.SheetRun.{endingAt, storeAt}
-use Rattle.evaluate.specs.Speed.{targetTests, speedTests, speedBy, speedStoreAfter}
+use Rattle.evaluate.specs.Speed.{speedTests, speedBy, speedStoreAfter}
 use Rattle.evaluate.specs.Demands.{Passed, Demand-1, speedAnswered, beliefAt, SpeedMet}
 use Rattle.evaluate.proofs.Numbers.{speed-numbered, answer-is, store-is, speed-answer-is, speed-store-is}
 use Rattle.evaluate.proofs.Finish.{drive-fits, ready, target-inside}

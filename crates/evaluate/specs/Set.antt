@@ -1,24 +1,18 @@
 -- The call for a set of demands (document 02, request three): belief and plausibility at each of them. Assumes nothing.
 use Prim.Native.Nat.{ℕ, _*_}
-use mathlib.Core.List.{List, [], _∷_, _++_}
-use lib.Dec.{ltb}
+use mathlib.Core.List.{List, _++_}
 use lib.ListN.{length, drop}
-use Rattle.theory.specs.Limits.{mostDemands}
 use Rattle.theory.specs.Focal.{Focal}
 use Rattle.theory.specs.Structure.{Tree}
 use Rattle.theory.specs.Evaluation.{Evaluation, completed, refused}
-use Rattle.plan.specs.Tests.{Test, test, outside}
-use Rattle.queries.specs.Shares.{sharesBytes, encodeSet}
+use Rattle.plan.specs.Tests.{Test}
+use Rattle.queries.specs.Shares.{sharesBytes, encodeSet, demandTests}
 use Rattle.evaluate.specs.declared.SheetRun.{SheetRun}
 use Rattle.evaluate.specs.Answer.{sheetOutcomes, callTests, ending}
 use Rattle.evaluate.specs.Store.{storeWith}
 use Rattle.evaluate.specs.SheetRun.{sheetRunOf}
 
--- Its tests: 1 to 12, as of any call; then 17, the number of demands is not 1 to 16; then 18, the shares' buffer (document 02: the answer
--- buffer) has fewer than 16 bytes for each demand.
-abbrev pub demandTests : ℕ → ℕ → List Test
-demandTests count bytes = test 17 (outside 1 mostDemands count) ∷ test 18 (ltb bytes (sharesBytes * count)) ∷ []
-
+-- Its tests: 1 to 12, as of any call; then 17 and 18, those of the demands and of the shares' buffer.
 abbrev pub setTests : List ℕ → List ℕ → ℕ → ℕ → List Test
 setTests sheet demands room bytes = callTests sheet room ++ demandTests (length demands) bytes
 

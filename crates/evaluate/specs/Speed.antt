@@ -1,8 +1,7 @@
 -- The call for a speed (document 02, request one): the greatest demand whose belief is at least a target. Assumes nothing.
 use Prim.Native.Nat.{ℕ}
-use mathlib.Core.List.{List, [], _∷_, _++_}
+use mathlib.Core.List.{List, _++_}
 use lib.ListN.{length}
-use Rattle.theory.specs.Limits.{thousandths}
 use Rattle.theory.specs.Focal.{Focal}
 use Rattle.theory.specs.Masses.{total}
 use Rattle.theory.specs.declared.Component.{Component}
@@ -11,15 +10,13 @@ use Rattle.theory.specs.Structure.{Tree}
 use Rattle.theory.specs.Lists.{driveList}
 use Rattle.theory.specs.Speed.{speedFor}
 use Rattle.theory.specs.Evaluation.{Evaluation, completed, refused}
-use Rattle.plan.specs.Tests.{Test, test, outside}
+use Rattle.plan.specs.Tests.{Test}
+use Rattle.queries.specs.Speed.{targetTests}
 use Rattle.evaluate.specs.declared.SpeedAnswer.{SpeedAnswer}
 use Rattle.evaluate.specs.Answer.{components, structure, callTests, ending, answerOf}
 use Rattle.evaluate.specs.Store.{storeWith}
 
--- Its tests: 1 to 12, as of any call; then 16, the target is not 1 to 1,000.
-abbrev pub targetTests : ℕ → List Test
-targetTests target = test 16 (outside 1 thousandths target) ∷ []
-
+-- Its tests: 1 to 12, as of any call; then 16, that of the target.
 abbrev pub speedTests : List ℕ → ℕ → ℕ → List Test
 speedTests sheet target room = callTests sheet room ++ targetTests target
 

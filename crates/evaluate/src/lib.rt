@@ -5,16 +5,14 @@ ghost use lib.ListN.{length};
 ghost use Rattle.theory.specs.Masses.{total};
 ghost use Rattle.plan.specs.Plan.{componentsOf};
 ghost use Rattle.plan.specs.Valid.{Valid};
-ghost use Rattle.plan.specs.Tests.{firstBroken};
 ghost use Rattle.evaluate.specs.Answer.{testedOf, answer};
 ghost use Rattle.evaluate.specs.Store.{isLate, storeAfter};
 ghost use Rattle.evaluate.specs.SheetRun.{refusedRun, sheetRun, storeThen, answerFrom};
-ghost use Rattle.evaluate.specs.Speed.{targetTests, speedAnswer, speedStoreAfter};
-ghost use Rattle.evaluate.specs.Set.{demandTests, setAnswer, setStoreAfter, sharesAfter};
+ghost use Rattle.evaluate.specs.Speed.{speedAnswer, speedStoreAfter};
+ghost use Rattle.evaluate.specs.Set.{setAnswer, setStoreAfter, sharesAfter};
 use plan::Plan;
 use queries::Shares;
 use reading::Reading;
-use theory::THOUSANDTHS;
 
 // What an ordinary call answers: the number of the refusal and zeros, or 0, the total U, the two shares of it, the pairs formed and the length
 // of the drive's list.
@@ -135,19 +133,12 @@ pub fn bounds(sheet: &[u8], demand: u32, allowance: u32, store: &mut [u8]) -> An
     answer_from(r, s)
 }
 
-// The number of a target: 16 unless it is 1 to 1,000.
-fn target_number(target: u32) -> u8
-    ensures { λ r. ⌜ r ≡ firstBroken (targetTests target) ⌝ }
-{
-    plan::first(16, plan::either(target < 1, THOUSANDTHS < target as u64), 0)
-}
-
 // The call for a speed. It answers for any sheet, target, allowance and store, and leaves every byte of the store as `speedStoreAfter` says.
 pub fn speed(sheet: &[u8], target: u32, allowance: u32, store: &mut [u8]) -> SpeedAnswer
     ensures { λ r. ⌜ r ≡ speedAnswer (now (sheet .entry)) target allowance (length (now (store .entry))) ⌝ }
     ensures { λ _. ⌜ now (store .exit) ≡ speedStoreAfter (now (sheet .entry)) target allowance (now (store .entry)) ⌝ }
 {
-    let r = run_sheet(sheet, target_number(target), allowance, store);
+    let r = run_sheet(sheet, queries::target_number(target), allowance, store);
     let n = r.intervals;
     // A refused call has no records: its speed and its shares are 0.
     let v = queries::speed_for(store, n, target, r.total);
@@ -157,15 +148,6 @@ pub fn speed(sheet: &[u8], target: u32, allowance: u32, store: &mut [u8]) -> Spe
         answer: a,
         speed: v,
     }
-}
-
-// The number of a set of `count` demands with `bytes` bytes for their shares: 17 unless there are 1 to 16, then 18 unless each has 16 bytes.
-fn demands_number(count: usize, bytes: usize) -> u8
-    ensures { λ r. ⌜ r ≡ firstBroken (demandTests count bytes) ⌝ }
-{
-    let uncounted = plan::either(count < 1, theory::MOST_DEMANDS < count);
-    let short = bytes / queries::SHARES_BYTES < count;
-    plan::first(17, uncounted, plan::first(18, short, 0))
 }
 
 // The call for a set of demands. It answers for any sheet, demands, allowance, store and shares' buffer, and leaves every byte of the store as
@@ -181,7 +163,7 @@ pub fn set(
     ensures { λ _. ⌜ now (store .exit) ≡ setStoreAfter (now (sheet .entry)) (now (demands .entry)) allowance (now (store .entry)) (length (now (shares .entry))) ⌝ }
     ensures { λ _. ⌜ now (shares .exit) ≡ sharesAfter (now (sheet .entry)) (now (demands .entry)) allowance (length (now (store .entry))) (now (shares .entry)) ⌝ }
 {
-    let own = demands_number(demands.len(), shares.len());
+    let own = queries::demands_number(demands.len(), shares.len());
     let a = run_sheet(sheet, own, allowance, store);
     if a.number != 0 {
         return a;

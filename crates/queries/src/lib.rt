@@ -1,4 +1,5 @@
-// What is asked of a list of records: its shares at a demand and at each of a set of demands, and the speed for a target.
+// What is asked of a list of records: its shares at a demand and at each of a set of demands, and the speed for a target; and the tests of a
+// target and of a set, 16, 17 and 18.
 ghost use mathlib.Core.Path.{_≡_};
 ghost use mathlib.Core.Bool.{cond};
 ghost use mathlib.Core.List.{_++_};
@@ -7,9 +8,10 @@ ghost use lib.Dec.{leb};
 ghost use lib.ListN.{length, take, drop};
 ghost use Rattle.theory.specs.Limits.{thousandths};
 ghost use Rattle.theory.specs.Speed.{meets, speedFor};
+ghost use Rattle.plan.specs.Tests.{firstBroken};
 ghost use Rattle.records.specs.Records.{records};
-ghost use Rattle.queries.specs.Shares.{sharesOf, sharesBytes, encodeShares, encodeSet, Readable};
-ghost use Rattle.queries.specs.Speed.{Searchable};
+ghost use Rattle.queries.specs.Shares.{sharesOf, sharesBytes, encodeShares, encodeSet, demandTests, Readable};
+ghost use Rattle.queries.specs.Speed.{targetTests, Searchable};
 use records::SPEED_LIMIT;
 use theory::THOUSANDTHS;
 
@@ -50,6 +52,15 @@ pub fn shares_at(s: &[u8], n: usize, demand: u64) -> Shares
     }
 }
 
+// The number of a set of `count` demands with `bytes` bytes for their shares: 17 unless there are 1 to 16, then 18 unless each has 16 bytes.
+pub fn demands_number(count: usize, bytes: usize) -> u8
+    ensures { λ r. ⌜ r ≡ firstBroken (demandTests count bytes) ⌝ }
+{
+    let uncounted = plan::either(count < 1, theory::MOST_DEMANDS < count);
+    let short = bytes / SHARES_BYTES < count;
+    plan::first(17, uncounted, plan::first(18, short, 0))
+}
+
 // Writes the shares at place i.
 fn put_shares(out: &mut [u8], i: usize, shares: Shares)
     requires { ⌜ sharesBytes * (i + 1) ≤ length (now out) ⌝ }
@@ -71,6 +82,13 @@ pub fn put_set(s: &[u8], n: usize, demands: &[u32], out: &mut [u8])
         let shares = shares_at(s, n, demand);
         put_shares(out, i, shares);
     }
+}
+
+// The number of a target: 16 unless it is 1 to 1,000.
+pub fn target_number(target: u32) -> u8
+    ensures { λ r. ⌜ r ≡ firstBroken (targetTests target) ⌝ }
+{
+    plan::first(16, plan::either(target < 1, THOUSANDTHS < target as u64), 0)
 }
 
 // Whether a share is at least `target` thousandths of the total. Their product does not fit 64 bits; a thousandth of it, rounded up, does.

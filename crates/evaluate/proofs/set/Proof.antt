@@ -9,11 +9,11 @@ use Rattle.theory.specs.Evaluation.{Evaluation}
 use Rattle.theory.specs.Focal.{Focal}
 use Rattle.plan.specs.Tests.{firstBroken}
 use Rattle.plan.proofs.Numbers.{number-never}
-use Rattle.queries.specs.Shares.{sharesBytes, encodeSet}
+use Rattle.queries.specs.Shares.{sharesBytes, encodeSet, demandTests}
 use Rattle.evaluate.specs.Answer.{sheetOutcomes}
 use Rattle.evaluate.specs.Store.{isLate}
 use Rattle.evaluate.specs.SheetRun.{sheetRunOf, endingAt, storeAt}
-use Rattle.evaluate.specs.Set.{demandTests, setTests, sharesBy, setAnswer, setStoreAfter, sharesAfter}
+use Rattle.evaluate.specs.Set.{setTests, sharesBy, setAnswer, setStoreAfter, sharesAfter}
 use Rattle.evaluate.proofs.Numbers.{number-then, ended, set-answer-is, set-store-is, shares-is}
 use Rattle.evaluate.proofs.Finish.{number, end, PastRun, past-run, shares-room, shares-refused, shares-asked}
 use borrow.Author.Needs.{needs}

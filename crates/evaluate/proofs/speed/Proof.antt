@@ -11,11 +11,12 @@ use Rattle.theory.specs.Speed.{speedFor}
 use Rattle.plan.specs.Tests.{firstBroken}
 use Rattle.plan.proofs.Numbers.{number-never}
 use Rattle.queries.specs.Shares.{sharesOf}
+use Rattle.queries.specs.Speed.{targetTests}
 use Rattle.evaluate.specs.declared.SheetRun.{SheetRun}
 use Rattle.evaluate.specs.Answer.{components, structure, sheetList, answerOf}
 use Rattle.evaluate.specs.Store.{isLate}
 use Rattle.evaluate.specs.SheetRun.{sheetRunOf, endingAt, storeAt}
-use Rattle.evaluate.specs.Speed.{targetTests, speedBy, speedAnswerOf}
+use Rattle.evaluate.specs.Speed.{speedBy, speedAnswerOf}
 use Rattle.evaluate.proofs.Numbers.{number-then, speed-answer-is, speed-store-is}
 use Rattle.evaluate.proofs.Finish.{end, askedList, PastRun, past-run, target-asked, answer-asked}
 use borrow.Author.Needs.{needs}

@@ -1,9 +1,9 @@
--- `evaluate::target_number` meets its contract. Assumes nothing.
+-- `queries::target_number` meets its contract. Assumes nothing.
 use mathlib.Core.Path.{ap, _∙_}
 use mathlib.Core.Bool.{Bool, cond}
 use borrow.Author.Needs.{needs}
-use Rattle.evaluate.proofs.target_number.Statement.{statement}
-use Rattle.evaluate.proofs.target_number.Tie as tie
+use Rattle.queries.proofs.target_number.Statement.{statement}
+use Rattle.queries.proofs.target_number.Tie as tie
 
 returns : tie.Need-returns
 returns c = c .first .ensures ∙ ap (λ (b : Bool). cond b 16 0) (c .before .either .ensures)

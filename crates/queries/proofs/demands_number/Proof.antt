@@ -1,4 +1,4 @@
--- `evaluate::demands_number` meets its contract. Assumes nothing.
+-- `queries::demands_number` meets its contract. Assumes nothing.
 use Prim.Native.Nat.{ℕ, _*_, _/_}
 use mathlib.Core.Path.{_≡_, _∙_}
 use mathlib.Core.Bool.{cond}
@@ -6,10 +6,10 @@ use native.Mathlib.Decide.{decLt}
 use native.Mathlib.Omega.{arith}
 use lib.Dec.{ltb}
 use borrow.Author.Tests.{lt-ltb, le-ltb}
 use Rattle.queries.specs.Shares.{sharesBytes}
 use borrow.Author.Needs.{needs}
-use Rattle.evaluate.proofs.demands_number.Statement.{statement}
-use Rattle.evaluate.proofs.demands_number.Tie as tie
+use Rattle.queries.proofs.demands_number.Statement.{statement}
+use Rattle.queries.proofs.demands_number.Tie as tie
 
 -- The bytes are too few for the shares exactly where fewer shares than demands fit them.
 few : (bytes count : ℕ) → ltb (bytes / sharesBytes) count ≡ ltb bytes (sharesBytes * count)
