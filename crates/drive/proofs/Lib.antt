@@ -2,7 +2,3 @@
 pub mod Call
 pub mod Speed
 pub mod Set
-pub mod Fits
-pub mod Writer
-pub mod Reader
-pub mod RoundTrips

@@ -1,5 +1,4 @@
--- What C hosts link: the numbers that are returned, and each buffer afterwards.
+-- The calls for C hosts: the numbers that are returned, and each buffer afterwards.
 pub mod Call
 pub mod Speed
 pub mod Set
-pub mod Sheets

@@ -7,20 +7,17 @@ ghost use lib.ListN.{length, drop};
 ghost use Rattle.drive.specs.Call.{answerBytes, encodeAnswer, numberReturned, listAfter, answerAfter};
 ghost use Rattle.drive.specs.Speed.{speedAnswerBytes, encodeSpeedAnswer, speedNumber, speedListAfter, speedAnswerAfter};
 ghost use Rattle.drive.specs.Set.{setAnswerBytes, encodeSetAnswer, setNumber, setListAfter, setSharesAfter, setAnswerAfter};
-ghost use Rattle.drive.specs.Sheets.{writeNumber, sheetAfter, lengthAfter, readNumber, planAfter};
+ghost use Rattle.sheets.specs.Sheets.{writeNumber, sheetAfter, lengthAfter, readNumber, planAfter};
 use evaluate::Answer;
 use evaluate::SheetRun;
 use evaluate::SpeedAnswer;
 
-// The bytes that an answer takes, those of an answer with a speed, those of the answer beside the shares of a set, and those of the length
-// that the writer answers.
+// The bytes that an answer takes, those of an answer with a speed, and those of the answer beside the shares of a set.
 const ANSWER_BYTES: usize = 40;
 
 const SPEED_ANSWER_BYTES: usize = 48;
 
 const SET_ANSWER_BYTES: usize = 24;
-
-const LENGTH_BYTES: usize = 8;
 
 // Writes an answer at the front of a buffer that holds it.
 fn put_answer(a: Answer, buffer: &mut [u8])
@@ -139,17 +136,7 @@ pub extern "C" fn drive_write_sheet(plan: &[u8], sheet: &mut [u8], answer: &mut 
     ensures { λ _. ⌜ now (sheet .exit) ≡ sheetAfter (now (plan .entry)) (now (sheet .entry)) (now (answer .entry)) ⌝ }
     ensures { λ _. ⌜ now (answer .exit) ≡ lengthAfter (now (plan .entry)) (now (sheet .entry)) (now (answer .entry)) ⌝ }
 {
-    if plan.len() < wire::PLAN_BYTES {
-        return 12;
-    }
-    let p = wire::decode_plan(plan);
-    if answer.len() < LENGTH_BYTES {
-        let number = writing::plan_number(p);
-        return plan::first(12, number == 0, number) as u32;
-    }
-    let w = writing::write_sheet(p, sheet);
-    numbers::write_number(answer, 0, LENGTH_BYTES, w.length as u64);
-    w.number as u32
+    sheets::write_from_bytes(plan, sheet, answer)
 }
 
 // Returns the number. The plan of the sheet goes to the front of `plan`.
@@ -158,10 +145,5 @@ pub extern "C" fn drive_read_sheet(sheet: &[u8], plan: &mut [u8]) -> u32
     ensures { λ r. ⌜ r ≡ readNumber (now (sheet .entry)) (now (plan .entry)) ⌝ }
     ensures { λ _. ⌜ now (plan .exit) ≡ planAfter (now (sheet .entry)) (now (plan .entry)) ⌝ }
 {
-    let r = reading::read_sheet(sheet);
-    if plan.len() < wire::PLAN_BYTES {
-        return plan::first(12, r.number == 0, r.number) as u32;
-    }
-    wire::encode_plan(plan, r.plan);
-    r.number as u32
+    sheets::read_to_bytes(sheet, plan)
 }

@@ -20,11 +20,11 @@ use Rattle.plan.proofs.Numbers.{no-number, accepted-by, refused-by, number-neve
 use Rattle.writing.specs.Writing.{lengthOf, sheetFields, planTests, writerTests, writtenOf, bytesAfter}
 use Rattle.writing.specs.declared.Written.{Written}
 use Rattle.writing.proofs.Accepted.{written-number, bytes-refused}
-use Rattle.writing.proofs.Theorems.{written-sheet}
+use Rattle.writing.proofs.Cleaned.{ignores-unused}
+use Rattle.writing.proofs.Theorems.{written-sheet, written-longest, rest-kept, nothing-written as refused-writes}
 use Rattle.wire.specs.Wire.{planBytes, decodePlan}
-use Rattle.evaluate.proofs.Demands.{writer}
-use Rattle.drive.specs.Sheets.{lengthBytes, writeCallTests, writeNumber, sheetAfter, lengthAfter, Write}
-use Rattle.drive.specs.Sheets.{WrittenAlike, UnusedIgnored}
+use Rattle.sheets.specs.Sheets.{lengthBytes, writeCallTests, writeNumber, sheetAfter, lengthAfter, Write}
+use Rattle.sheets.specs.Sheets.{WrittenAlike, UnusedIgnored}
 use Rattle.numbers.proofs.Numbers.{length-bigEndian, read-front}
 
 zero-bytes : bigEndian lengthBytes 0 ≡ replicate lengthBytes 0
@@ -115,7 +115,7 @@ module _ (plan sheet answer : List ℕ) where
   longest : writeNumber plan sheet answer ≡ 0 → lengthOf p ≤ 224
   longest e =
       let z = accepted-writes e .0 in
-      omega (arith, ap (λ (x : Written). x .length) (written-sheet p (length sheet) z), writer p sheet .longest z)
+      omega (arith, ap (λ (x : Written). x .length) (written-sheet p (length sheet) z), written-longest p (length sheet) z)
 
   -- The plan's own tests decide, and none of them has the number 15.
   by-fifteen : (m : ℕ) → m ≤ 12 → (a : Bool) → cond a m (firstBroken (planTests p)) ≡ 15 → ⊥
@@ -132,7 +132,7 @@ module _ (plan sheet answer : List ℕ) where
         let fits : (writtenOf p (length room)) .number ≡ 0 =
         written-number p (length room) ∙ (first-none (test 15 (ltb (length room) (lengthOf p)) ∷ []) kept
         ∙ rw (le-ltb (length room) (lengthOf p) (omega (arith, length-replicate {A = ℕ} (lengthOf p) 0)))) in
-        let most : lengthOf p ≤ 224 = omega (arith, ap (λ (x : Written). x .length) (written-sheet p (length room) fits), writer p room .longest fits) in
+        let most : lengthOf p ≤ 224 = omega (arith, ap (λ (x : Written). x .length) (written-sheet p (length room) fits), written-longest p (length room) fits) in
         let behind : firstBroken (last ∷ []) ≡ 15 = sym (first-none (last ∷ []) kept) ∙ (sym (written-number p (length sheet)) ∙ e) in
         short (ltb (length sheet) (lengthOf p)) refl behind most
   ]
@@ -154,12 +154,12 @@ module _ (plan sheet answer : List ℕ) where
         by-lengths (λ g. absurd (n (sym e ∙ plan-short g .0))) (λ g m. absurd (omega arith))
         (λ g m.
         let w = long-enough g m in
-        w .2 ∙ ap (λ bs. bs ++ drop lengthBytes answer) (ap (bigEndian lengthBytes) (writer p sheet .nothing-written k h (sym (w .0) ∙ e) .0) ∙ zero-bytes));
+        w .2 ∙ ap (λ bs. bs ++ drop lengthBytes answer) (ap (bigEndian lengthBytes) (refused-writes p sheet k h (sym (w .0) ∙ e) .0) ∙ zero-bytes));
     short-kept = λ l. by-lengths (λ h. plan-short h .2) (λ h k. answer-short h k .2) (λ h k. absurd (omega arith));
     length-read = λ e. rw (accepted-writes e .2) (read-front lengthBytes (lengthOf p) (drop lengthBytes answer) (omega (arith, longest e)));
     sheet-rest = λ e.
         let w = accepted-writes e in
-        rw (w .1) (rw (ap (λ (x : Written). x .length) (written-sheet p (length sheet) (w .0))) at (writer p sheet .rest-kept (w .0)));
+        rw (w .1) (rw (ap (λ (x : Written). x .length) (written-sheet p (length sheet) (w .0))) at (rest-kept p sheet (w .0)));
     answer-rest =
         by-lengths (λ h. ap (drop lengthBytes) (plan-short h .2)) (λ h k. ap (drop lengthBytes) (answer-short h k .2))
         (λ h k. ap (drop lengthBytes) (long-enough h k .2) ∙ drop-at (bigEndian lengthBytes _) (drop lengthBytes answer) lengthBytes (length-bigEndian lengthBytes _));
@@ -176,8 +176,8 @@ module _ (plan sheet answer : List ℕ) where
 alike : (p q : Plan) (buffer : List ℕ) → cleanedPlan p ≡ cleanedPlan q
     → (writtenOf p (length buffer) ≡ writtenOf q (length buffer)) × (bytesAfter p buffer ≡ bytesAfter q buffer)
 alike p q buffer e =
-    let f = writer p buffer .ignores-unused in
-    let g = writer q buffer .ignores-unused in
+    let f = ignores-unused p buffer in
+    let g = ignores-unused q buffer in
     (sym (f .answer) ∙ (ap (λ (x : Plan). writtenOf x (length buffer)) e ∙ g .answer), sym (f .bytes) ∙ (ap (λ (x : Plan). bytesAfter x buffer) e ∙ g .bytes))
 
 zero-else : (n : ℕ) → cond (eqb n 0) 0 n ≡ n

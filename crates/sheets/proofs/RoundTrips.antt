@@ -10,16 +10,15 @@ use Rattle.reading.specs.Reading.{readOf}
 use Rattle.reading.specs.declared.Reading.{Reading}
 use Rattle.writing.specs.Writing.{writtenOf, bytesAfter}
 use Rattle.writing.specs.declared.Written.{Written}
-use Rattle.writing.proofs.Theorems.{written-sheet}
+use Rattle.writing.proofs.Theorems.{written-sheet, written-longest, written-is-read, read-is-written}
 use Rattle.wire.specs.Wire.{planBytes, decodePlan, encodePlan}
 use Rattle.wire.proofs.RoundTrip.{plan-length}
-use Rattle.evaluate.proofs.Demands.{writer, round-trips}
-use Rattle.drive.specs.Sheets.{lengthBytes, sheetAfter, lengthAfter, planAfter}
-use Rattle.drive.specs.Sheets.{RoundTrips}
+use Rattle.sheets.specs.Sheets.{lengthBytes, sheetAfter, lengthAfter, planAfter}
+use Rattle.sheets.specs.Sheets.{RoundTrips}
 use Rattle.numbers.proofs.Numbers.{read-front}
-use Rattle.drive.proofs.Fits.{read-fits}
-use Rattle.drive.proofs.Writer.{long-enough, accepted-writes, write}
-use Rattle.drive.proofs.Reader.{buffer-long, accepted-long, plan-read}
+use Rattle.sheets.proofs.Fits.{read-fits}
+use Rattle.sheets.proofs.Writer.{long-enough, accepted-writes, write}
+use Rattle.sheets.proofs.Reader.{buffer-long, accepted-long, plan-read}
 
 pub sheet-round-trips : RoundTrips
 sheet-round-trips = record {
@@ -29,7 +28,7 @@ sheet-round-trips = record {
       let s : List ℕ = take (numberAt (lengthAfter plan sheet answer) 0 lengthBytes) (sheetAfter plan sheet answer) in
       let same : s ≡ take ((writtenOf p (length sheet)) .length) (bytesAfter p sheet) =
       rw (write plan sheet answer .length-read e, w .1, ap (λ (x : Written). x .length) (written-sheet p (length sheet) (w .0))) in
-      let back : readOf s ≡ record { number = 0; plan = cleanedPlan p } = ap readOf same ∙ round-trips .written-reads p sheet (w .0) in
+      let back : readOf s ≡ record { number = 0; plan = cleanedPlan p } = ap readOf same ∙ written-is-read p sheet (w .0) in
       let r = buffer-long s buffer l in
       (r .0 ∙ ap (λ (x : Reading). x .number) back, r .1 ∙ ap (λ (x : Reading). encodePlan (x .plan) ++ drop planBytes buffer) back);
   read-writes = λ s buffer sheet answer bs bt e l k.
@@ -40,11 +39,11 @@ sheet-round-trips = record {
       let there : planBytes ≤ length (planAfter s buffer) =
       rw (r .1) (omega (arith, length-append (encodePlan ((readOf s) .plan)) (drop planBytes buffer), plan-length ((readOf s) .plan) (read-fits s))) in
       let w = long-enough (planAfter s buffer) sheet answer there k in
-      let back = round-trips .read-writes s sheet bs bt z l in
+      let back = read-is-written s sheet bs bt z l in
       let result : writtenOf (decodePlan (planAfter s buffer)) (length sheet) ≡ record { number = 0; length = length s } =
       ap (λ q. writtenOf q (length sheet)) p ∙ back .0 in
       let short : length s ≤ 224 =
-      rw result at (writer (decodePlan (planAfter s buffer)) sheet .longest (ap (λ (x : Written). x .number) result)) in (
+      rw result at (written-longest (decodePlan (planAfter s buffer)) (length sheet) (ap (λ (x : Written). x .number) result)) in (
         w .0 ∙ ap (λ (x : Written). x .number) result,
         w .1 ∙ (ap (λ q. bytesAfter q sheet) p ∙ back .1),
         rw (w .2, result) (read-front lengthBytes (length s) (drop lengthBytes answer) (omega (arith, short))),

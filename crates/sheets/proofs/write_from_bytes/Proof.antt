@@ -1,4 +1,4 @@
--- `drive::drive_write_sheet` meets its contract. Assumes nothing.
+-- `sheets::write_from_bytes` meets its contract. Assumes nothing.
 use borrow.Author.Needs.{needs}
 use mathlib.Core.Path.{sym, ap, _∙_}
 use mathlib.Core.Bool.{cond}
@@ -11,10 +11,10 @@ use Rattle.plan.specs.declared.Plan.{Plan}
 use Rattle.plan.specs.Tests.{firstBroken}
 use Rattle.writing.specs.declared.Written.{Written}
 use Rattle.writing.specs.Writing.{planTests, writtenOf, bytesAfter}
-use Rattle.drive.specs.Sheets.{lengthBytes}
-use Rattle.drive.proofs.Writer.{plan-short, answer-short, long-enough}
-use Rattle.drive.proofs.drive_write_sheet.Statement.{statement}
-use Rattle.drive.proofs.drive_write_sheet.Tie as tie
+use Rattle.sheets.specs.Sheets.{lengthBytes}
+use Rattle.sheets.proofs.Writer.{plan-short, answer-short, long-enough}
+use Rattle.sheets.proofs.write_from_bytes.Statement.{statement}
+use Rattle.sheets.proofs.write_from_bytes.Tie as tie
 
 returns : tie.Need-returns
 returns c =
@@ -53,7 +53,7 @@ returns-3 c =
       ),
     )
 
-pub drive-write-sheet-spec : {M : Type 1} → statement M
-drive-write-sheet-spec =
+pub write-from-bytes-spec : {M : Type 1} → statement M
+write-from-bytes-spec =
     tie.close (tie.spec returns (λ c κs. search needs) (λ c κs. search needs) (λ c κs. search needs) (λ c. search needs) returns-2
     (λ c κs. search needs) (λ c κs. search needs) (λ c. search needs) (λ c. search needs) (λ c. search needs) returns-3)

@@ -1,4 +1,4 @@
--- `drive::drive_read_sheet` meets its contract. Assumes nothing.
+-- `sheets::read_to_bytes` meets its contract. Assumes nothing.
 use borrow.Author.Needs.{needs}
 use mathlib.Core.Path.{sym, ap, _∙_}
 use mathlib.Core.Bool.{cond}
@@ -8,9 +8,9 @@ use lib.ListN.{drop}
 use denote.Ref.{now}
 use Rattle.reading.specs.declared.Reading.{Reading}
 use Rattle.wire.specs.Wire.{planBytes, encodePlan}
-use Rattle.drive.proofs.Reader.{buffer-short, buffer-long}
-use Rattle.drive.proofs.drive_read_sheet.Statement.{statement}
-use Rattle.drive.proofs.drive_read_sheet.Tie as tie
+use Rattle.sheets.proofs.Reader.{buffer-short, buffer-long}
+use Rattle.sheets.proofs.read_to_bytes.Statement.{statement}
+use Rattle.sheets.proofs.read_to_bytes.Tie as tie
 
 returns : tie.Need-returns
 returns c =
@@ -31,7 +31,7 @@ returns-2 c =
       e .encode-plan .ensures ∙ (ap (λ (x : Reading). encodePlan (x .plan) ++ drop planBytes (now (a .plan))) (r .read-sheet .ensures) ∙ sym (way .1)),
     )
 
-pub drive-read-sheet-spec : {M : Type 1} → statement M
-drive-read-sheet-spec =
+pub read-to-bytes-spec : {M : Type 1} → statement M
+read-to-bytes-spec =
     tie.close (tie.spec (λ c κs. search needs) (λ c κs. search needs) (λ c. search needs) returns (λ c κs. search needs) (λ c. search needs)
     (λ c. search needs) returns-2)

@@ -20,11 +20,11 @@ use Rattle.reading.specs.declared.Reading.{Reading}
 use Rattle.reading.proofs.Decided.{read-number, read-refused}
 use Rattle.writing.specs.Writing.{writtenOf, bytesAfter}
 use Rattle.writing.specs.declared.Written.{Written}
+use Rattle.writing.proofs.Theorems.{written-is-read, read-is-written}
 use Rattle.wire.specs.Wire.{planBytes, decodePlan, encodePlan}
 use Rattle.wire.proofs.RoundTrip.{plan-length, plan-back}
-use Rattle.evaluate.proofs.Demands.{round-trips}
-use Rattle.drive.specs.Sheets.{readCallTests, readNumber, planAfter, Read}
-use Rattle.drive.proofs.Fits.{read-fits}
+use Rattle.sheets.specs.Sheets.{readCallTests, readNumber, planAfter, Read}
+use Rattle.sheets.proofs.Fits.{read-fits}
 
 zeros-encoded : encodePlan zeroPlan ≡ replicate planBytes 0
 unfolding encodePlan bigEndian
@@ -79,8 +79,8 @@ module _ (sheet buffer : List ℕ) where
     rest-kept = kept-behind (ltb (length buffer) planBytes) refl;
     unused-zero = λ b e.
         let z = sym (buffer-long (accepted-long e) .0) ∙ e in
-        let back = round-trips .read-writes sheet sheet b b z (omega arith) in
-        let again = round-trips .written-reads ((readOf sheet) .plan) sheet (ap (λ (x : Written). x .number) (back .0)) in
+        let back = read-is-written sheet sheet b b z (omega arith) in
+        let again = written-is-read ((readOf sheet) .plan) sheet (ap (λ (x : Written). x .number) (back .0)) in
         let same : take ((writtenOf ((readOf sheet) .plan) (length sheet)) .length) (bytesAfter ((readOf sheet) .plan) sheet) ≡ sheet =
         rw (back .0, back .1) (take-at sheet (drop (length sheet) sheet) (length sheet) refl) in
         let clean : (readOf sheet) .plan ≡ cleanedPlan ((readOf sheet) .plan) = ap (λ (x : Reading). x .plan) (sym (ap readOf same) ∙ again) in
