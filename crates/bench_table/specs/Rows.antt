@@ -117,3 +117,7 @@ listDiffers store count list =
 unfoldable pub speedsDown : ℕ → List ℕ
 speedsDown zero = replicate (3 * mostIntervals) 1
 speedsDown (suc n) = let speed = mostIntervals - 1 - n in set (set (speedsDown n) (3 * n) speed) (3 * n + 1) speed
+
+-- The same with 4,095 and 4,094 in places 62 and 63; 127 is the weight at 4,095.
+unfoldable pub speedsToCeiling : List ℕ
+speedsToCeiling = set (set (set (set (set (speedsDown mostIntervals) 186 4095) 187 4095) 188 127) 189 4094) 190 4094

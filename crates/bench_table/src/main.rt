@@ -1,7 +1,7 @@
-// Runs every row of the bench table, and rows of its own for time that nobody accounted for, for a speed and for a set of demands: plans are
-// written as sheets, and the answer of each call and its list, record by record, are compared with the table's. Prints a line for each
-// row, and how many rows disagree. What is printed is open in the contracts of the functions that print, and so is the count of rows
-// that they hand on; every other function says what it answers.
+// Runs every row of the bench table, and rows of its own for time that nobody accounted for, for the ceiling of shared joins, for a speed
+// and for a set of demands: plans are written as sheets, and the answer of each call and its list, record by record, are compared with
+// the table's. Prints a line for each row, and how many rows disagree. What is printed is open in the contracts of the functions that
+// print, and so is the count of rows that they hand on; every other function says what it answers.
 use evaluate::Answer;
 use evaluate::SheetRun;
 use evaluate::SpeedAnswer;
@@ -23,7 +23,7 @@ ghost use Rattle.evaluate.specs.Set.{setAnswer, setStoreAfter, sharesAfter};
 ghost use Rattle.evaluate.specs.SheetRun.{refusedRun as SheetRun·refused};
 ghost use Rattle.evaluate.specs.Bench.{accepted as Bench·accepted};
 ghost use Rattle.bench_table.specs.Rows.{componentOf, singleSpeeds, componentA, componentB, W0, W1, D1, D2, D3, chain, sheetOf, restructured};
-ghost use Rattle.bench_table.specs.Rows.{bytesOf, sharesHeld, answersDiffer, runsDiffer, sharesDiffer, recordDiffers, listDiffers, speedsDown};
+ghost use Rattle.bench_table.specs.Rows.{bytesOf, sharesHeld, answersDiffer, runsDiffer, sharesDiffer, recordDiffers, listDiffers, speedsDown, speedsToCeiling};
 
 // The bytes of the longest sheet, and of the store in all rows but one.
 const LONGEST: usize = 224;
@@ -390,6 +390,19 @@ fn every_speed() -> [u64; 3 * theory::MOST_INTERVALS]
     list
 }
 
+// From number 186 on: the speeds 4,095 and 4,094, and the 192 from 191 down.
+fn speeds_to_ceiling() -> [u64; 3 * theory::MOST_INTERVALS]
+    ensures { λ r. ⌜ r ≡ speedsToCeiling ⌝ }
+{
+    let mut list = every_speed();
+    list[186] = 4095;
+    list[187] = 4095;
+    list[188] = 127;
+    list[189] = 4094;
+    list[190] = 4094;
+    list
+}
+
 // Prints whether a row disagrees. Answers how many rows do, n before this one.
 fn verdict(n: u64, wrong: bool) -> u64 {
     if wrong {
@@ -705,9 +718,71 @@ fn rows_of_rests(mut n: u64) -> u64 {
         3,
         1000,
         ROOM,
-        accepted(15, 9, 13, 6, 6),
-        &[3, 7, 3, 3, 4, 6, 1, 4099, 1, 1, 4096, 2, 1, 4, 1, 1, 1, 2],
+        accepted(15, 9, 13, 6, 5),
+        &[3, 7, 3, 3, 4, 6, 1, 4095, 3, 1, 4, 1, 1, 1, 2],
     )
+}
+
+// The row of D1, D2 and 0, 64, 128, 4,094, 4,095, whose list stands in the numbers from 186 on.
+fn ceiling_row(n: u64, s: Sheet, list: [u64; 3 * theory::MOST_INTERVALS]) -> u64 {
+    let want = accepted(320, 127, 127, 384, 194);
+    row(n, s, 4095, 384, ROOM, want, &list[186..])
+}
+
+// The ceiling of shared joins. Without it the second sheet's list would have six intervals, and the third's 257.
+fn rows_of_ceiling(mut n: u64) -> u64 {
+    let top = component(1, 1, [4095, 4095, 1], [0; 3], [0; 3]);
+    let one = component(1, 1, [1, 1, 1], [0; 3], [0; 3]);
+    let top_and_one = written(2, top, one, one, SHARED_CODE);
+    let fast = component(6, 3, [3000, 4000, 1], [4000, 4050, 2], [4050, 4095, 3]);
+    let slow = component(2, 2, [50, 60, 1], [95, 200, 1], [0; 3]);
+    let d1 = single_speeds([0, 1, 2, 3, 4, 5, 6, 7], 8, 8);
+    let d2 = single_speeds([0, 8, 16, 24, 32, 40, 48, 56], 8, 8);
+    let d3 = single_speeds([0, 64, 128, 4094, 4095, 0, 0, 0], 5, 5);
+    let d = written(3, d1, d2, d3, SHARED_CODE);
+    io::write_all(STDOUT_FILENO, b"4,095 and 1 shared, demand 4,095");
+    n = row(
+        n,
+        top_and_one,
+        4095,
+        1000,
+        ROOM,
+        accepted(1, 1, 1, 1, 1),
+        &[4095, 4095, 1],
+    );
+    io::write_all(STDOUT_FILENO, b"same, demand 4,096");
+    n = row(
+        n,
+        top_and_one,
+        4096,
+        1000,
+        ROOM,
+        accepted(1, 0, 0, 1, 1),
+        &[4095, 4095, 1],
+    );
+    io::write_all(
+        STDOUT_FILENO,
+        b"a list that the ceiling shortens, demand 4,095",
+    );
+    n = row(
+        n,
+        written(2, fast, slow, slow, SHARED_CODE),
+        4095,
+        1000,
+        ROOM,
+        accepted(12, 8, 11, 6, 4),
+        &[4095, 4095, 8, 4050, 4095, 2, 3095, 4095, 1, 3050, 4060, 1],
+    );
+    io::write_all(
+        STDOUT_FILENO,
+        b"D1, D2 and 0, 64, 128, 4,094, 4,095, demand 4,095, allowance 384",
+    );
+    n = ceiling_row(n, d, speeds_to_ceiling());
+    io::write_all(
+        STDOUT_FILENO,
+        b"D1, D2 and 0, 64, 128, 4,094, 4,095, allowance 383",
+    );
+    refused_row(n, d, 4095, 383, ROOM, 13)
 }
 
 // A row of W for a speed.
@@ -881,7 +956,8 @@ fn rows_of_refused_sets(mut n: u64) -> u64 {
 
 fn main() {
     let n = rows_of_limits(rows_of_w_and_refusals(rows_of_a_and_b(0)));
-    let m = rows_of_refused_speeds(rows_of_speeds(rows_of_rests(n)));
+    let k = rows_of_ceiling(rows_of_rests(n));
+    let m = rows_of_refused_speeds(rows_of_speeds(k));
     print(
         b"rows that disagree: ",
         rows_of_refused_sets(rows_of_sets(m)),

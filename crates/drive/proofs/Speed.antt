@@ -56,7 +56,7 @@ module _ (sheet : List ℕ) (target allowance : ℕ) (list buffer : List ℕ) wh
           answers = answers-read (p .answer) fits rest all;
           speed-read =
               rw all (read-past (encodeAnswer (p .answer)) rest answerBytes 0 8 (length-answer (p .answer))
-              ∙ read-front 8 (p .speed) behind (omega (arith, speed-met sheet target allowance list .speed-fits)));
+              ∙ read-front 8 (p .speed) behind (omega (arith, speed-met sheet target allowance list .speed-most)));
           later-kept = ap (drop speedAnswerBytes) (way .2) ∙ drop-at (encodeSpeedAnswer p) behind speedAnswerBytes (length-speed-answer p);
         };
   }

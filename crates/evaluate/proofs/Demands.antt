@@ -9,7 +9,7 @@ use native.Mathlib.Decide.{ℕ-discrete}
 use native.Mathlib.Omega.{arith}
 use lib.Dec.{leb, eqb}
 use lib.ListN.{length}
-use borrow.Author.Tests.{eq-eqb, ne-eqb}
+use borrow.Author.Tests.{eq-eqb, ne-eqb, lt-leb}
 use Rattle.theory.specs.declared.Entry.{Entry}
 use Rattle.theory.specs.declared.Component.{Component}
 use Rattle.theory.specs.Structure.{Tree}
@@ -17,15 +17,15 @@ use Rattle.theory.specs.Evaluation.{Evaluation, completed, refused}
 use Rattle.theory.specs.Limits.{mostTotal, mostComponents}
 use Rattle.theory.specs.Sums.{Every}
 use Rattle.theory.specs.Masses.{total}
-use Rattle.theory.specs.Focal.{Focal, weights, Positive}
+use Rattle.theory.specs.Focal.{Focal, weights, InRange, Positive}
 use Rattle.theory.specs.Choices.{belief, plausibility}
 use Rattle.theory.specs.Lists.{outcomesOf}
 use Rattle.theory.specs.Bounds.{Bounds}
 use Rattle.theory.proofs.Every.{every-map, every-all}
 use Rattle.theory.proofs.Masses.{length-masses, rest-added}
 use Rattle.theory.proofs.Steps.{positive-outcomesOf}
-use Rattle.theory.proofs.Collect.{order-collect, positive-collect, where-le, share-antitone, weightAt-collect, belief-collect, plausibility-collect}
-use Rattle.theory.proofs.Totals.{weights-listOf, weights-driveList, total-le}
+use Rattle.theory.proofs.Collect.{order-collect, positive-collect, where-le, where-none, share-antitone, weightAt-collect, belief-collect, plausibility-collect}
+use Rattle.theory.proofs.Totals.{weights-listOf, weights-driveList, total-le, fits-listOf}
 use Rattle.theory.proofs.Range.{spans-choices}
 use Rattle.theory.proofs.Bounds.{bounds}
 use Rattle.records.specs.Store.{settled}
@@ -46,7 +46,7 @@ use Rattle.evaluate.specs.Store.{isLate, storeBy, storeWith, storeAfter}
 use Rattle.evaluate.specs.SheetRun.{refusedRun, sheetRunOf, endingAt, withoutShares}
 use Rattle.evaluate.specs.Demands.{Passed, Broken, by-test, by-join, answerAt, answered, Demand-1, Demand-2, Demand-3, DemandsMet, Writer, RoundTrips}
 use Rattle.evaluate.proofs.Numbers.{Numbered, call-numbered, number-then, Ended, tested, stopped, passed, ended, answer-is, store-is}
-use Rattle.evaluate.proofs.Finish.{WithinAllowance, completes, within, leaves-by, drive-fits, late, above, ready}
+use Rattle.evaluate.proofs.Finish.{WithinAllowance, completes, within, leaves-by, drive-fits, drive-storable, late, above, ready}
 
 -- Equal functions over an equal whole have the same bounds.
 bounds-of : {I : Type 0} {es : List Entry} {cs : List Component} {v w : ℕ} {demandAt f g h k : I → ℕ} → v ≡ w → ((i : I) → f i ≡ h i) → ((i : I) → g i ≡ k i)
@@ -184,7 +184,8 @@ module _ {s : List ℕ} {allowance : ℕ} {store : List ℕ} {r : SheetRun} {aft
         let leaves = leaves-by valid allowance (a .stack) (a .pairs) (a .runs) in
         let n : r .intervals ≡ length l = ap (λ (x : SheetRun). x .intervals) (a .answer-is-run) in
         let pairs-is : r .pairs ≡ a .pairs = ap (λ (x : SheetRun). x .pairs) (a .answer-is-run) in
-        let fits = drive-fits valid in
+        let fits = drive-storable valid in
+        let range : Every InRange l = drive-fits valid .speeds in
         let six : length (components s) ≤ mostComponents = omega (arith, components-count (planOf s), valid .most) in
         record {
           masses-most = every-map (λ c h. length-masses c (h .1)) (valid .counts);
@@ -204,6 +205,12 @@ module _ {s : List ℕ} {allowance : ℕ} {store : List ℕ} {r : SheetRun} {aft
           list-positive = rw (leaves .list) at (positive-collect (positive-outcomesOf (valid .positive) (leaves .tree)));
           lists-ordered = λ t. order-collect (outcomesOf (components s) t);
           lists-weights = weights-listOf (valid .balanced);
+          list-in-range = range;
+          lists-in-range = λ t. fits-listOf (valid .inRange) (valid .balanced) (every-map (λ c q. q .1) (valid .totals)) t .speeds;
+          above-top = λ i h. (
+            b i ∙ sym (belief-collect (demandAt i) every) ∙ where-none (λ low high. leb (demandAt i) low) (every-map (λ f q. lt-leb (demandAt i) (f .low) (omega (arith, q .low-high, q .below))) range),
+            p i ∙ sym (plausibility-collect (demandAt i) every) ∙ where-none (λ low high. leb (demandAt i) high) (every-map (λ f q. lt-leb (demandAt i) (f .high) (omega (arith, q .below))) range),
+          );
           list-weight = λ low high. weightAt-collect low high every;
           list-weights = weights-driveList (valid .balanced) (structure s) ∙ sym total-is;
           list-belief = λ i. belief-collect (demandAt i) every ∙ sym (b i);

@@ -21,7 +21,7 @@ use Rattle.theory.proofs.Every.{every-map}
 use Rattle.theory.specs.Order.{InOrder}
 use Rattle.theory.proofs.Collect.{order-collect, belief-collect, plausibility-collect}
 use Rattle.theory.proofs.Method.{image, evaluate-lists, evaluate-refused, Leaves, method}
-use Rattle.theory.proofs.Totals.{fits-drive, total-positive}
+use Rattle.theory.proofs.Totals.{Fits, fits-drive, total-positive}
 use Rattle.queries.specs.declared.Shares.{Shares}
 use Rattle.records.specs.Records.{records, Storable}
 use Rattle.queries.specs.Shares.{sharesOf, sharesBytes, encodeShares, encodeSet, demandTests, Readable}
@@ -103,11 +103,12 @@ module _ {p : Plan} (valid : Valid p) where
           let one : map (listOf cs) stack ≡ driveList es cs ∷ [] = ap (map (listOf cs)) (left-over .left) ∙ ap (_∷ []) (left-over .list) in
           rw one (leaves-one left-over)
 
-  -- The numbers of the drive's list fit records.
-  pub drive-fits : Storable (driveList es cs)
-  drive-fits =
-      fits-record (fits-drive (valid .inRange) (valid .balanced) (every-map (λ c q. q .1) (valid .totals)) (valid .positive) es entries-are each-once (valid .findTwo))
-      (omega (arith, components-count p, valid .most))
+  -- The drive's list has its speeds in range, and its numbers fit records.
+  pub drive-fits : Fits (length cs) (driveList es cs)
+  drive-fits = fits-drive (valid .inRange) (valid .balanced) (every-map (λ c q. q .1) (valid .totals)) (valid .positive) es entries-are each-once (valid .findTwo)
+
+  pub drive-storable : Storable (driveList es cs)
+  drive-storable = fits-record drive-fits (omega (arith, components-count p, valid .most))
 
 -- A list that a store holds takes its records' bytes.
 settled-room : (size : ℕ) (l : List Focal) (s : List ℕ) → recordBytes * length l ≤ length (settled size l s)
@@ -208,7 +209,7 @@ module _ (s : List ℕ) (own allowance : ℕ) (store : List ℕ) where
       go (stopped z l q) e f = nothing r x e
       go (passed z q) e f =
           let m : r .intervals ≡ length (sheetList s) = ap (λ (y : SheetRun). y .intervals) e in
-          let fits = drive-fits (ready s store (number-passed s (length store) own z) .valid) in
+          let fits = drive-storable (ready s store (number-passed s (length store) own z) .valid) in
           let back : records (r .intervals) x ≡ sheetList s = rw (m, f) (settled-list (needed (planOf s)) store (fits .0) (fits .1)) in
           record {
             readable = record { room = rw (m, f) (settled-room (needed (planOf s)) (sheetList s) store); fits = rw back (fits .1) };

@@ -29,7 +29,7 @@ use Rattle.evaluate.specs.Store.{storeAfter}
 use Rattle.evaluate.specs.SheetRun.{refusedRun, sheetRunOf, endingAt, storeAt, withoutShares}
 use Rattle.evaluate.specs.Set.{setTests, sharesBy}
 use Rattle.evaluate.specs.Demands.{Passed, Demand-1, setAnswered, setStore, sharesThen, Place, demandOf, beliefOf, plausibilityOf, SetMet}
-use Rattle.evaluate.proofs.Finish.{drive-fits, shares-refused}
+use Rattle.evaluate.proofs.Finish.{drive-storable, shares-refused}
 use Rattle.evaluate.proofs.Numbers.{set-numbered, answer-is, store-is, set-answer-is, set-store-is, shares-is}
 use Rattle.evaluate.proofs.Demands.{endNumber, passes, demand-1-of, number-own, same-number, Accepted, valid, demand-2-of, demand-3-of, number-by, run-by, zeros-by}
 use Rattle.evaluate.proofs.Demands.{RunFits64, refused-fits, answer-fits}
@@ -154,7 +154,7 @@ module _ (s demands : List ℕ) (allowance : ℕ) (store shares : List ℕ) wher
         let (behind, q) = at i k h in
         let test : ℕ → ℕ → Bool = λ low high. leb (getD demands i 0) (end low high) in
         let fits : weightWhere test (sheetOutcomes s) < 2 ^ 64 =
-        omega (arith, drive-fits (valid accepts) .1, where-le test (sheetList s), where-collect test (sheetOutcomes s)) in
+        omega (arith, drive-storable (valid accepts) .1, where-le test (sheetList s), where-collect test (sheetOutcomes s)) in
         q ∙ back (getD demands i 0) behind fits
 
     beliefs : (p : Place demands) → beliefOf s demands allowance store shares p ≡ belief (demandOf demands p) (sheetOutcomes s)

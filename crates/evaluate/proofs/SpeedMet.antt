@@ -8,7 +8,7 @@ use native.Mathlib.Nat.{mul-pos, mul-le-mul-right}
 use native.Mathlib.Decide.{ℕ-discrete}
 use native.Mathlib.Omega.{arith}
 use lib.ListN.{length}
-use Rattle.theory.specs.Limits.{thousandths}
+use Rattle.theory.specs.Limits.{topSpeed, thousandths}
 use Rattle.theory.specs.Focal.{weights}
 use Rattle.theory.specs.Masses.{total}
 use Rattle.theory.specs.Structure.{Tree}
@@ -126,10 +126,10 @@ module _ (s : List ℕ) (target allowance : ℕ) (store : List ℕ) where
       let o = beyond 1 thousandths target in
       (λ e. (own .0 e .0, o .0 (b .0 (own .0 e .1))), λ (u, h). own .1 (u, b .1 (o .1 h)))
 
-  speed-small : here .speed ≤ 65535
+  speed-small : here .speed ≤ topSpeed
   speed-small = elim (ℕ-discrete (here .answer .number) 0) [
     | yes e ↦
-        let most = speed-most target (total (components s)) 65535 (every-map (λ f h. omega (arith, h .0)) (drive-fits (valid e) .0)) in
+        let most = speed-most target (total (components s)) topSpeed (every-map (λ f h. omega (arith, h .low-high, h .below)) (drive-fits (valid e) .speeds)) in
         omega (arith, list-speed e, most)
     | no n ↦ omega (arith, speed-is, no-speed end (here .answer .number) (omega arith) (sym number-is))
   ]
@@ -139,7 +139,7 @@ module _ (s : List ℕ) (target allowance : ℕ) (store : List ℕ) where
     first = first;
     sixteen = sixteen;
     zeros = zeros;
-    speed-fits = omega (arith, speed-small);
+    speed-most = speed-small;
     speed-zero = λ k h e. speed-is ∙ no-speed end k h (sym number-is ∙ e);
     as-ordinary = as-ordinary;
     store-as-ordinary = store-as-ordinary;

@@ -1,4 +1,5 @@
--- The rows P1 to P10 of the bench table, from the sheets' bytes. They are proved in proofs/Bench.antt. Assumes nothing.
+-- The rows P1 to P10 of the bench table, and the case that document 02 adds with request six, from the sheets' bytes. They are proved in
+-- proofs/Bench.antt. Assumes nothing.
 use Prim.Native.Nat.{ℕ}
 use mathlib.Core.Path.{_≡_}
 use mathlib.Core.List.{List, [], _∷_}
@@ -30,6 +31,13 @@ W =
     0x30 ∷ 0x64 ∷ 0x00 ∷ 0x00 ∷ 0x04 ∷ 0x05 ∷ 0x00 ∷ 0x0C ∷ 0x02 ∷ 0x04 ∷ 0x30 ∷ 0x07 ∷ 0x00 ∷ 0xA0 ∷ 0x34 ∷
     0x20 ∷ 0x64 ∷ 0x00 ∷ 0x00 ∷ 0x06 ∷ 0x10 ∷ 0xC0 ∷ 0x20 ∷ 0x02 ∷ 0x82 ∷ 0x10 ∷ 0x01 ∷ 0x80 ∷ []
 
+-- The speed 4,095 and the speed 1, each all of the time, shared.
+abbrev pub topAndOne : List ℕ
+topAndOne =
+    0x12 ∷ 0x12 ∷
+    0x10 ∷ 0x01 ∷ 0xFF ∷ 0xFF ∷ 0xFF ∷ 0x00 ∷ 0x40 ∷
+    0x10 ∷ 0x01 ∷ 0x00 ∷ 0x10 ∷ 0x01 ∷ 0x00 ∷ 0x40 ∷ 0x01 ∷ 0x90 ∷ []
+
 -- An accepted call's answer.
 abbrev pub accepted : ℕ → ℕ → ℕ → ℕ → ℕ → Answer
 accepted total belief plausibility pairs intervals =
@@ -56,3 +64,6 @@ pub record Bench : Type 0 where
   pub P9-four : answer ABshared 3 4 storeBytes ≡ accepted 12 9 10 4 4
   pub P9-three : answer ABshared 3 3 storeBytes ≡ refusal 13
   pub P10 : asked (AB (0x80 ∷ 0x10 ∷ [])) 0 ≡ refusal 11
+  pub top-and-one-list : sheetList topAndOne ≡ focal 4095 4095 1 ∷ []
+  pub top-and-one : asked topAndOne 4095 ≡ accepted 1 1 1 1 1
+  pub above-top : asked topAndOne 4096 ≡ accepted 1 0 0 1 1

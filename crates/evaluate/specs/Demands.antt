@@ -9,7 +9,7 @@ use lib.ListN.{length, take, drop, getD}
 use Rattle.theory.specs.Sums.{Every}
 use Rattle.theory.specs.Masses.{masses, total, AllDistinct, Balanced}
 use Rattle.theory.specs.Rest.{RestAdded}
-use Rattle.theory.specs.Focal.{weights, Positive}
+use Rattle.theory.specs.Focal.{weights, InRange, Positive}
 use Rattle.theory.specs.Structure.{Tree, trees}
 use Rattle.theory.specs.Choices.{choices, belief, plausibility, weightAt, Spans}
 use Rattle.theory.specs.Order.{InOrder}
@@ -17,7 +17,7 @@ use Rattle.theory.specs.Lists.{listOf, totalOf}
 use Rattle.theory.specs.Evaluation.{pairCount, completed, refused}
 use Rattle.theory.specs.Bounds.{Bounds, Antitone}
 use Rattle.theory.specs.Speed.{GreatestDemand}
-use Rattle.theory.specs.Limits.{mostMasses, mostTotal, mostComponents, thousandths, mostDemands}
+use Rattle.theory.specs.Limits.{topSpeed, mostMasses, mostTotal, mostComponents, thousandths, mostDemands}
 use Rattle.numbers.specs.Numbers.{Bytes, numberAt}
 use Rattle.records.specs.Records.{records}
 use Rattle.plan.specs.declared.Plan.{Plan}
@@ -97,6 +97,10 @@ module _ {I : Type 0} (s : List ℕ) (allowance : ℕ) (answered : SheetRun) (af
     -- Each sub-structure's list, a leaf's and a join's, is in order, and its weights add to the product of the totals under it.
     pub lists-ordered : (t : Tree) → InOrder (listOf (components s) t)
     pub lists-weights : (t : Tree) → weights (listOf (components s) t) ≡ totalOf (components s) t
+    -- No speed of the drive's list or of any sub-structure's is above 4,095, so nothing meets a demand above it.
+    pub list-in-range : Every InRange (sheetList s)
+    pub lists-in-range : (t : Tree) → Every InRange (listOf (components s) t)
+    pub above-top : (i : I) → topSpeed < demandAt i → (beliefAt i ≡ 0) × (plausibilityAt i ≡ 0)
     -- The pairs are those of the joins of the one tree that the structure builds.
     pub tree : Tree
     pub built : trees (structure s) ≡ tree ∷ []
@@ -149,8 +153,8 @@ module _ (s : List ℕ) (target allowance : ℕ) (store : List ℕ) where
     -- The speed of an accepted call is the greatest of all demands that meet the target, and no other number is.
     pub greatest : speedAnswered .answer .number ≡ 0 → GreatestDemand target (speedAnswered .answer .total) beliefAt (speedAnswered .speed)
     pub no-other : speedAnswered .answer .number ≡ 0 → (v : ℕ) → GreatestDemand target (speedAnswered .answer .total) beliefAt v → v ≡ speedAnswered .speed
-    -- It is a demand that a call can have: it fits 32 bits.
-    pub speed-fits : speedAnswered .speed < 2 ^ 32
+    -- It is at most 4,095.
+    pub speed-most : speedAnswered .speed ≤ topSpeed
 
 -- A place of a set of demands, and the demand there.
 abbrev pub Place : List ℕ → Type 0

@@ -113,7 +113,7 @@ module _ {out₀ out : List ℕ} {m : ℕ} {p : Focal} {rest : List Focal} {g : 
   pub fits-now : weights (f .acc) + p .weight < 2 ^ 64
   fits-now = omega (arith, f .fits)
 
-  pub under-now : Under speedLimit p
+  under-now : Under speedLimit p
   under-now = every-head (f .under)
 
   module _ {x : Focal} (q : x ≡ p) {e : List ℕ} {r : Insertion}
@@ -140,7 +140,7 @@ module _ {out₀ out : List ℕ} {m : ℕ} (xs rest : List Focal) {g : Filled} (
   pub row-insertable : Insertable out m (weights xs)
   row-insertable = insertable (f .held) (weights xs) (omega (arith, f .fits, sum-append (λ (x : Focal). x .weight) xs rest))
 
-  pub row-under : Every (Under speedLimit) xs
+  row-under : Every (Under speedLimit) xs
   row-under = every-split xs (f .under) .0
 
   module _ {e : List ℕ} {n : ℕ}

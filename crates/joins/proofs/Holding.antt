@@ -1,15 +1,20 @@
 -- A list that a buffer holds, and one insertion into it. Assumes nothing.
 use mathlib.Core.Path.{_≡_, sym, ap, _∙_}
 use mathlib.Core.List.{List, []}
-use Prim.Native.Nat.{ℕ, _+_, _*_, _^_, _≤_, _<_}
+use Prim.Native.Nat.{ℕ, _+_, _-_, _*_, _^_, _≤_, _<_}
 use native.Mathlib.Omega.{arith}
 use lib.ListN.{length, drop}
 use Rattle.theory.specs.Sums.{Every}
 use Rattle.theory.specs.Focal.{Focal, weights}
+use Rattle.theory.specs.Joins.{joinedFocal, pairs}
+use Rattle.theory.specs.declared.Join.{Join}
 use Rattle.theory.specs.Order.{InOrder, inserted}
 use Rattle.theory.specs.Limits.{mostIntervals, listBytes}
 use Rattle.theory.proofs.Collect.{weights-insert, every-insert, order-insert}
+use Rattle.theory.proofs.Every.{every-image}
 use Rattle.theory.proofs.Lists.{length-insert}
+use Rattle.theory.proofs.Monotone.{joined-within}
+use Rattle.theory.proofs.Steps.{every-pairs}
 use Rattle.numbers.specs.Numbers.{Bytes}
 use Rattle.records.specs.declared.Insertion.{Insertion}
 use Rattle.records.specs.Records.{records, Under, speedLimit}
@@ -18,6 +23,22 @@ use Rattle.records.specs.Insertion.{insertionOf, insertOrStay, Insertable}
 use Rattle.records.proofs.Records.{length-records, holds, records-encode, records-under}
 use Rattle.records.proofs.Store.{length-holding, holding-over}
 use Rattle.records.proofs.Inserting.{stay-fits, stay-full}
+use Rattle.joins.specs.Joins.{rowOf}
+
+-- ---- records hold what is joined of two records
+
+module _ (op : Join) where
+  joined-under : (f g : Focal) → Under speedLimit f → Under speedLimit g → Under speedLimit (joinedFocal op f g)
+  joined-under f g u v = (
+    omega (arith, joined-within op {top = speedLimit - 1} {a = f .low} {b = g .low} (omega arith) (omega arith) (omega arith)),
+    omega (arith, joined-within op {top = speedLimit - 1} {a = f .high} {b = g .high} (omega arith) (omega arith) (omega arith)),
+  )
+
+  pub pairs-under : {fs gs : List Focal} → Every (Under speedLimit) fs → Every (Under speedLimit) gs → Every (Under speedLimit) (pairs op fs gs)
+  pairs-under = every-pairs _*_ op joined-under
+
+  pub joined-row-under : (f : Focal) → Under speedLimit f → {gs : List Focal} → Every (Under speedLimit) gs → Every (Under speedLimit) (rowOf op f gs)
+  joined-row-under f u = every-image (joinedFocal op f) (λ g. joined-under f g u)
 
 -- ---- one interval more
 

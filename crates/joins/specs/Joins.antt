@@ -13,7 +13,7 @@ use Rattle.theory.specs.Joins.{joinedFocal, pairs}
 use Rattle.theory.specs.Order.{collect}
 use Rattle.theory.specs.Lists.{joinLists}
 use Rattle.theory.specs.Limits.{mostIntervals, recordBytes, listBytes}
-use Rattle.records.specs.Records.{records, Under, speedLimit, Storable}
+use Rattle.records.specs.Records.{records, Under, speedLimit}
 use Rattle.records.specs.Store.{listIn, holdingFrom}
 use Rattle.joins.specs.declared.Listing.{Listing}
 use Rattle.joins.specs.declared.Joined.{Joined}
@@ -79,4 +79,4 @@ pub record Joinable (op : Join) (s : List ℕ) (left na right nb free : ℕ) : T
   pub first : Operand s left na
   pub second : Operand s right nb
   pub room : free + listBytes ≤ length s
-  pub fits : Storable (pairsIn op s left na right nb)
+  pub fits : weights (pairsIn op s left na right nb) < 2 ^ 64

@@ -4,13 +4,12 @@ ghost use mathlib.Core.Path.{_≡_};
 ghost use mathlib.Core.List.{[]};
 ghost use Prim.Native.Nat.{_+_, _-_, _*_, _^_, _≤_, _<_};
 ghost use lib.ListN.{length};
-ghost use Rattle.theory.specs.Sums.{Every};
 ghost use Rattle.theory.specs.Masses.{masses};
-ghost use Rattle.theory.specs.Focal.{listed, weights};
+ghost use Rattle.theory.specs.Focal.{focal, listed, weights};
 ghost use Rattle.theory.specs.Joins.{pairs};
 ghost use Rattle.theory.specs.Order.{collect};
 ghost use Rattle.theory.specs.Limits.{mostHeld, recordBytes, listBytes};
-ghost use Rattle.records.specs.Records.{records, Under, speedLimit, Storable, keyed};
+ghost use Rattle.records.specs.Records.{records};
 ghost use Rattle.records.specs.Store.{copiedFrom, holding, holdingFrom};
 ghost use Rattle.records.specs.Insertion.{Insertable};
 ghost use Rattle.joins.specs.Filling.{fill};
@@ -58,7 +57,8 @@ fn product_weight(a: u64, b: u64) -> u64
 // any number is right.
 fn join_row(
     op: Join,
-    key: u64,
+    low: u16,
+    high: u16,
     weight: u64,
     b: &[u8],
     nb: usize,
@@ -66,24 +66,21 @@ fn join_row(
     n: usize,
     hint: usize,
 ) -> Row
-    requires { ⌜ Insertable (now out) n (weights (rowOf op (keyed key weight) (records nb (now b)))) ⌝ }
+    requires { ⌜ Insertable (now out) n (weights (rowOf op (focal low high weight) (records nb (now b)))) ⌝ }
     requires { ⌜ recordBytes * nb ≤ length (now b) ⌝ }
-    requires { ⌜ Every (Under speedLimit) (rowOf op (keyed key weight) (records nb (now b))) ⌝ }
-    ensures { λ r. ⌜ r .count ≡ filledRow op (keyed key weight) (now (b .entry)) nb (now (out .entry)) n .count ⌝ }
-    ensures { λ _. ⌜ now (out .exit) ≡ holding (now (out .entry)) (filledRow op (keyed key weight) (now (b .entry)) nb (now (out .entry)) n .list) ⌝ }
+    ensures { λ r. ⌜ r .count ≡ filledRow op (focal low high weight) (now (b .entry)) nb (now (out .entry)) n .count ⌝ }
+    ensures { λ _. ⌜ now (out .exit) ≡ holding (now (out .entry)) (filledRow op (focal low high weight) (now (b .entry)) nb (now (out .entry)) n .list) ⌝ }
 {
-    let low = key / SPEED_LIMIT;
-    let high = key % SPEED_LIMIT;
     let mut m = n;
     let mut first = hint;
     let mut at = hint;
     let mut j = 0;
     while j < nb {
-        let other = records::key_at(b, j);
-        let joined_low = theory::join_speeds(op, low, other / SPEED_LIMIT);
-        let joined_high = theory::join_speeds(op, high, other % SPEED_LIMIT);
+        let joined_low = theory::join_speeds(op, low, records::low_at(b, j));
+        let joined_high = theory::join_speeds(op, high, records::high_at(b, j));
+        let key = numbers::widened(joined_low) * SPEED_LIMIT + numbers::widened(joined_high);
         let product = product_weight(weight, records::weight_at(b, j));
-        let r = records::insert(out, m, joined_low * SPEED_LIMIT + joined_high, product, at);
+        let r = records::insert(out, m, key, product, at);
         m = r.count;
         at = r.place;
         if j == 0 {
@@ -102,7 +99,7 @@ fn join_row(
 // begins there.
 fn join_lists(op: Join, a: &[u8], na: usize, b: &[u8], nb: usize, out: &mut [u8]) -> usize
     requires { ⌜ (recordBytes * na ≤ length (now a)) × (recordBytes * nb ≤ length (now b)) × (listBytes ≤ length (now out)) ⌝ }
-    requires { ⌜ Storable (pairs op (records na (now a)) (records nb (now b))) ⌝ }
+    requires { ⌜ weights (pairs op (records na (now a)) (records nb (now b))) < 2 ^ 64 ⌝ }
     ensures { λ r. ⌜ r ≡ fill [] (pairs op (records na (now (a .entry))) (records nb (now (b .entry)))) .count ⌝ }
     ensures { λ _. ⌜ now (out .exit) ≡ holding (now (out .entry)) (fill [] (pairs op (records na (now (a .entry))) (records nb (now (b .entry)))) .list) ⌝ }
 {
@@ -110,8 +107,9 @@ fn join_lists(op: Join, a: &[u8], na: usize, b: &[u8], nb: usize, out: &mut [u8]
     let mut hint = 0;
     let mut i = 0;
     while i < na {
-        let key = records::key_at(a, i);
-        let r = join_row(op, key, records::weight_at(a, i), b, nb, out, m, hint);
+        let low = records::low_at(a, i);
+        let high = records::high_at(a, i);
+        let r = join_row(op, low, high, records::weight_at(a, i), b, nb, out, m, hint);
         m = r.count;
         hint = r.first;
         if MOST_INTERVALS < m {

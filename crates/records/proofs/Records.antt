@@ -20,6 +20,10 @@ pub key-is : (s : List ℕ) (k : ℕ) → k + 4 ≤ length s → numberAt s k 4 
 unfolding headRecord
 key-is s k h = number-split (drop k s) 0 2 2 (rw length-drop (omega arith))
 
+pub ends-are : (s : List ℕ) (k : ℕ) → (numberAt s k 2 ≡ headRecord (drop k s) .low) × (numberAt s (k + 2) 2 ≡ headRecord (drop k s) .high)
+unfolding headRecord
+ends-are s k = (refl, rw drop-drop)
+
 pub weight-is : (s : List ℕ) (k : ℕ) → k + 12 ≤ length s → numberAt s (k + 4) 4 * 4294967296 + numberAt s (k + 8) 4 ≡ headRecord (drop k s) .weight
 unfolding headRecord
 weight-is s k h =

@@ -29,6 +29,21 @@ pub fn key_at(s: &[u8], i: usize) -> u64
     numbers::read_number(s, RECORD_BYTES * i, 4)
 }
 
+// The low of record i, and its high: each is one load, which the two halves of a key are not where branches stand behind them.
+pub fn low_at(s: &[u8], i: usize) -> u16
+    requires { ⌜ recordBytes * i + recordBytes ≤ length (now s) ⌝ }
+    ensures { λ r. ⌜ r ≡ recordAt (now (s .entry)) i .low ⌝ }
+{
+    numbers::read_number(s, RECORD_BYTES * i, 2) as u16
+}
+
+pub fn high_at(s: &[u8], i: usize) -> u16
+    requires { ⌜ recordBytes * i + recordBytes ≤ length (now s) ⌝ }
+    ensures { λ r. ⌜ r ≡ recordAt (now (s .entry)) i .high ⌝ }
+{
+    numbers::read_number(s, RECORD_BYTES * i + 2, 2) as u16
+}
+
 // The weight of record i, in two halves: each is one load then.
 pub fn weight_at(s: &[u8], i: usize) -> u64
     requires { ⌜ recordBytes * i + recordBytes ≤ length (now s) ⌝ }

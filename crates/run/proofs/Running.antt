@@ -23,7 +23,7 @@ use Rattle.theory.specs.declared.Component.{Component}
 use Rattle.theory.specs.declared.Join.{Join}
 use Rattle.theory.proofs.Every.{index-of-every}
 use Rattle.theory.proofs.Structure.{named-length}
-use Rattle.theory.proofs.Totals.{fits-pairs, fits-join, fits-leaf, Fits}
+use Rattle.theory.proofs.Totals.{fits-pairs, fits-join, fits-weights, fits-leaf, Fits}
 use Rattle.records.specs.Store.{holdingFrom}
 use Rattle.records.proofs.Records.{length-records}
 use Rattle.records.proofs.Store.{drop-from}
@@ -188,7 +188,7 @@ module _ {p : Plan} {store₀ : List ℕ} (ready : Runnable p store₀) {allowan
         first = operand 2 (omega arith) two-there;
         second = operand 1 (omega arith) (omega (arith, two-there));
         room = omega (arith, join-room, ready .enough, running .stored .same-length);
-        fits = fits-record (fits-pairs op (topTwo .fits-left) (topTwo .fits-right)) together;
+        fits = fits-weights (fits-pairs op (topTwo .fits-left) (topTwo .fits-right)) together;
       };
     }
 

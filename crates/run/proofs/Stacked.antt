@@ -1,4 +1,4 @@
--- The lists of a stack, each over some components: speeds and weights stay below bounds that go by their number. Assumes nothing.
+-- The lists of a stack, each over some components: speeds are in range, and weights stay below a bound that goes by their number. Assumes nothing.
 use Prim.Native.Nat.{ℕ, _+_, _≤_}
 use mathlib.Core.Path.{_≡_}
 use mathlib.Core.List.{List, [], _∷_}

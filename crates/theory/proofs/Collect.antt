@@ -118,13 +118,17 @@ where-insert test f gs = where-weigh test (inserted f gs) ∙ (weigh-insert (λ 
 pub weights-insert : (f : Focal) (gs : List Focal) → weights (inserted f gs) ≡ f .weight + weights gs
 weights-insert = where-insert (λ low high. true)
 
+-- Where no interval passes a test, no weight does.
+pub where-none : (test : ℕ → ℕ → Bool) {fs : List Focal} → Every (λ f. test (f .low) (f .high) ≡ false) fs → weightWhere test fs ≡ 0
+where-none test Every.none = refl
+where-none test (Every.more p r) = rw p (omega (arith, where-none test r))
+
 -- A list in order, with no weight 0, is determined by its weights.
 at-self : (f : Focal) (fs : List Focal) → weightAt (f .low) (f .high) (f ∷ fs) ≡ f .weight + weightAt (f .low) (f .high) fs
 at-self f fs = rw (eq-eqb (f .low) (f .low) refl, eq-eqb (f .high) (f .high) refl) refl
 
 at-none : (f : Focal) {gs : List Focal} → Every (Before f) gs → weightAt (f .low) (f .high) gs ≡ 0
-at-none f Every.none = refl
-at-none f (Every.more {x = g} {xs = gs} p r) = rw (before-apart f g p) (omega (arith, at-none f r))
+at-none f b = where-none (sameEnds (f .low) (f .high)) (every-map (before-apart f) b)
 
 pub canonical : {fs gs : List Focal} → InOrder fs → Every Positive fs → InOrder gs → Every Positive gs
     → ((a b : ℕ) → weightAt a b fs ≡ weightAt a b gs) → fs ≡ gs

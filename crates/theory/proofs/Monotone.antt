@@ -8,6 +8,7 @@ use native.Mathlib.Omega.{arith}
 use lib.Dec.{leb}
 use lib.ListN.{getD}
 use borrow.Author.Tests.{leb-true, le-leb}
+use Rattle.theory.specs.Limits.{topSpeed}
 use Rattle.theory.specs.Sums.{sumBy}
 use Rattle.theory.specs.Focal.{Focal, Inside}
 use Rattle.theory.specs.Joins.{joined}
@@ -17,16 +18,16 @@ use Rattle.theory.specs.Structure.{step, run, Φ}
 use Rattle.theory.specs.declared.Join.{Join}
 use Rattle.theory.specs.declared.Join.the-variants.{Series, Shared, Spare}
 
--- Only these two laws know the three joins: what is joined grows with its parts, and is at most their sum.
+-- Only these two laws know the three joins: what is joined grows with its parts, and stays within every bound from 4,095 on that they keep.
 pub joined-mono : (op : Join) {a b c d : ℕ} → a ≤ b → c ≤ d → joined op a c ≤ joined op b d
 joined-mono Series h k = omega arith
 joined-mono Shared h k = omega arith
 joined-mono Spare h k = omega arith
 
-pub joined-le : (op : Join) (a b : ℕ) → joined op a b ≤ a + b
-joined-le Series a b = omega arith
-joined-le Shared a b = omega arith
-joined-le Spare a b = omega arith
+pub joined-within : (op : Join) {top a b : ℕ} → topSpeed ≤ top → a ≤ top → b ≤ top → joined op a b ≤ top
+joined-within Series t h k = omega arith
+joined-within Shared t h k = omega arith
+joined-within Spare t h k = omega arith
 
 pub test-mono : (d a b : ℕ) → a ≤ b → cond (leb d a) 1 0 ≤ cond (leb d b) 1 0
 test-mono d a b h = go (leb d a) refl

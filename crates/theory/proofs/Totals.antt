@@ -1,4 +1,4 @@
--- The weights of a list add up to the product of the totals under it, and speeds stay below a bound that joins keep: so all numbers fit. Assumes nothing.
+-- The weights of a list add up to the product of the totals under it, and joins keep speeds in range: so all numbers fit. Assumes nothing.
 use Prim.Native.Nat.{ℕ, _+_, _*_, _^_, _≤_, _<_}
 use mathlib.Core.Path.{_≡_, refl, sym, ap, ap₂, subst, _∙_}
 use mathlib.Core.List.{List, [], _∷_, _++_, map}
@@ -9,8 +9,8 @@ use lib.Pow.{pow-add}
 use lib.ListN.{length, getD, length-append}
 use Rattle.theory.specs.Sums.{sumBy, productBy, Every}
 use Rattle.theory.specs.Masses.{masses, total, Balanced, AllInRange, AllPositive}
-use Rattle.theory.specs.Focal.{Focal, weights, UpTo, InRange}
-use Rattle.theory.specs.Limits.{mostTotal, mostComponents, topSpeed}
+use Rattle.theory.specs.Focal.{Focal, weights, InRange}
+use Rattle.theory.specs.Limits.{mostTotal, mostComponents}
 use Rattle.theory.specs.Joins.{pairs, joinedFocal}
 use Rattle.theory.specs.declared.Entry.{Entry}
 use Rattle.theory.specs.Choices.{choices, outcome, outcomes}
@@ -23,7 +23,7 @@ use Rattle.theory.proofs.Sums.{sum-ext, sum-map, sum-scale, sum-oneOfEa
 use Rattle.theory.proofs.Steps.{weigh-pairs, every-pairs}
 use Rattle.theory.proofs.Collect.{weights-collect, weights-weigh, every-collect}
 use Rattle.theory.proofs.Counts.{once-length}
-use Rattle.theory.proofs.Monotone.{joined-mono, joined-le}
+use Rattle.theory.proofs.Monotone.{joined-mono, joined-within}
 use Rattle.theory.proofs.Every.{every-getD}
 use Rattle.theory.proofs.Structure.{one-tree}
 use Rattle.theory.proofs.Bridge.{drive-is-tree}
@@ -80,27 +80,27 @@ thousands a b m n p q h =
 
 -- ---- What is formed fits its place.
 
-joined-upTo : (m n : ℕ) (op : Join) (f g : Focal) → UpTo (topSpeed * m) f → UpTo (topSpeed * n) g → UpTo (topSpeed * (m + n)) (joinedFocal op f g)
-joined-upTo m n op f g p q = record {
+joined-in-range : (op : Join) (f g : Focal) → InRange f → InRange g → InRange (joinedFocal op f g)
+joined-in-range op f g p q = record {
   low-high = joined-mono op (p .low-high) (q .low-high);
-  below = omega (arith, joined-le op (f .high) (g .high), p .below, q .below);
+  below = joined-within op (omega arith) (p .below) (q .below);
 }
 
--- A list over m components has no speed above m times the highest of one, and its weights add to at most the m-th power of the highest T.
+-- A list over m components has its speeds in range, and its weights add to at most the m-th power of the highest T.
 pub record Fits (m : ℕ) (l : List Focal) : Type 0 where
-  pub speeds : Every (UpTo (topSpeed * m)) l
+  pub speeds : Every InRange l
   pub sum : weights l ≤ mostTotal ^ m
 
 fits-collect : {m : ℕ} {l : List Focal} → Fits m l → Fits m (collect l)
 fits-collect {m} {l} p = record {
-  speeds = every-collect (UpTo (topSpeed * m)) (λ f g h k. record { low-high = k .low-high; below = k .below }) (p .speeds);
+  speeds = every-collect InRange (λ f g h k. record { low-high = k .low-high; below = k .below }) (p .speeds);
   sum = rw (weights-collect l) (p .sum);
 }
 
 module _ {m n : ℕ} (op : Join) {l r : List Focal} (p : Fits m l) (q : Fits n r) where
   pub fits-pairs : Fits (m + n) (pairs op l r)
   fits-pairs = record {
-    speeds = every-pairs _*_ op (joined-upTo m n op) (p .speeds) (q .speeds);
+    speeds = every-pairs _*_ op (joined-in-range op) (p .speeds) (q .speeds);
     sum = rw (weights-pairs op l r, pow-add mostTotal m n) (mul-le-mul (p .sum) (q .sum));
   }
 
@@ -129,9 +129,12 @@ module _ {cs : List Component} (range : AllInRange cs) (balanced : Balanced cs) 
       (every-getD (λ c. weights (masses c) ≡ c .total) noComponent refl balanced i) (every-getD (λ c. c .total ≤ mostTotal) noComponent (omega arith) totals i)
   fits-tree (node op l r) = rw (length-append (leaves l) (leaves r)) (fits-pairs op (fits-tree l) (fits-tree r))
 
+  pub fits-listOf : (t : Tree) → Fits (length (leaves t)) (listOf cs t)
+  fits-listOf t = fits-collect (fits-tree t)
+
   -- The drive's list fits where the structure names each component once.
   pub fits-drive : AllPositive cs → (es : List Entry) → length es + 1 ≡ 2 * length cs → NamedOnce (length cs) es → joinsFindTwo es 0 ≡ true
       → Fits (length cs) (driveList es cs)
   fits-drive positive es l names two =
       let (t, one, each) = one-tree (length cs) es l names two in
-      rw (drive-is-tree positive es t one each) (subst (λ n. Fits n (listOf cs t)) (once-length (length cs) (leaves t) each) (fits-collect (fits-tree t)))
+      rw (drive-is-tree positive es t one each) (subst (λ n. Fits n (listOf cs t)) (once-length (length cs) (leaves t) each) (fits-listOf t))

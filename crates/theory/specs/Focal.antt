@@ -41,14 +41,11 @@ listed c = map (focalAt c) (countFrom 0 (c .count))
 abbrev pub weights : List Focal → ℕ
 weights = sumBy (λ f. f .weight)
 
--- The low is at most the high, and neither is above `top`.
-pub record UpTo (top : ℕ) (f : Focal) : Type 0 where
+-- What number 7 leaves of an accepted sheet's intervals, and joins keep: low at most high, and no speed above 4,095;
+pub record InRange (f : Focal) : Type 0 where
   pub low-high : f .low ≤ f .high
-  pub below : f .high ≤ top
+  pub below : f .high ≤ topSpeed
 
--- What number 7 leaves of an accepted sheet's intervals: low at most high, speeds in range, no weight 0.
-abbrev pub InRange : Focal → Type 0
-InRange = UpTo topSpeed
-
+-- and no weight 0.
 abbrev pub Positive : Focal → Type 0
 Positive f = 0 < f .weight

@@ -1,15 +1,16 @@
--- "Joins": the three joins of two speeds, and of two lists. Assumes nothing.
+-- "Joins": the three joins of two speeds, the shared one with its ceiling (document 02, request six), and of two lists. Assumes nothing.
 use Prim.Native.Nat.{ℕ, _+_, _*_, min, max}
 use mathlib.Core.List.{List, map}
+use Rattle.theory.specs.Limits.{topSpeed}
 use Rattle.theory.specs.Sums.{forEach}
 use Rattle.theory.specs.Focal.{Focal, focal}
 use Rattle.theory.specs.declared.Join.{Join}
 use Rattle.theory.specs.declared.Join.the-variants.{Series, Shared, Spare}
 
--- Series: the smaller speed. Shared: the sum. Spare: the larger speed.
+-- Series: the smaller speed. Shared: the sum or 4,095, whichever is smaller. Spare: the larger speed.
 abbrev pub joined : Join → ℕ → ℕ → ℕ
 joined Series x y = min x y
-joined Shared x y = x + y
+joined Shared x y = min (x + y) topSpeed
 joined Spare x y = max x y
 
 -- Two intervals joined: lows and highs separately, weights multiplied. How two weights are multiplied is a parameter.

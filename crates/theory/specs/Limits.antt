@@ -1,7 +1,7 @@
 -- The limits of documents 01 and 02, each number once; the constants of src/lib.rt are the same. Assumes nothing.
 use Prim.Native.Nat.{ℕ, _+_, _-_, _*_}
 
--- The highest speed of a component, in millimetres a second; the lowest is 0.
+-- The highest speed, of a component and of a drive, in millimetres a second; the lowest is 0.
 abbrev pub topSpeed : ℕ
 topSpeed = 4095
 

@@ -1,7 +1,8 @@
 // What specs and code share of a drive: the limits, a component by value, the entries of a structure, and the joins of two speeds.
 ghost use mathlib.Core.Path.{_≡_};
-ghost use Prim.Native.Nat.{_+_, _^_, _<_};
+ghost use Prim.Native.Nat.{_+_, min};
 ghost use Rattle.theory.specs.Joins.{joined};
+ghost use Rattle.theory.specs.Limits.{topSpeed};
 
 // The limits: specs/Limits.antt has them with document 01's words.
 pub const TOP_SPEED: u16 = 4095;
@@ -49,14 +50,25 @@ pub enum Entry {
     Join(Join),
 }
 
+// The sum of two speeds or 4,095, whichever is smaller.
+fn capped_sum(x: u16, y: u16) -> u16
+    ensures { λ r. ⌜ r ≡ min (x + y) topSpeed ⌝ }
+{
+    let sum = (x as u32) + (y as u32);
+    if sum < (TOP_SPEED as u32) {
+        sum as u16
+    } else {
+        TOP_SPEED
+    }
+}
+
 // The speed of two joined parts that run at x and y.
-pub fn join_speeds(op: Join, x: u64, y: u64) -> u64
-    requires { ⌜ x + y < 2 ^ 64 ⌝ }
+pub fn join_speeds(op: Join, x: u16, y: u16) -> u16
     ensures { λ r. ⌜ r ≡ joined op x y ⌝ }
 {
     match op {
         Join::Series => if x < y { x } else { y },
-        Join::Shared => x + y,
+        Join::Shared => capped_sum(x, y),
         Join::Spare => if x < y { y } else { x },
     }
 }

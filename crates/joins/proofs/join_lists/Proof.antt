@@ -5,17 +5,16 @@ use mathlib.Core.List.{List, [], _++_}
 use Prim.Native.Nat.{_≤_, _+_, _-_}
 use native.Mathlib.Omega.{arith}
 use lib.ListN.{drop}
-use Rattle.theory.specs.Sums.{Every}
-use Rattle.theory.specs.Focal.{Focal, weights}
+use Rattle.theory.specs.Focal.{Focal, focal, weights}
 use Rattle.theory.specs.Joins.{pairs}
-use Rattle.records.specs.Records.{keyed, recordAt, records, Under, speedLimit}
+use Rattle.records.specs.Records.{recordAt, records}
 use Rattle.records.specs.Store.{holding}
 use Rattle.records.specs.Insertion.{Insertable}
-use Rattle.records.proofs.Records.{from-key, records-next, records-end, record-under}
+use Rattle.records.proofs.Records.{records-next, records-end, records-under}
 use Rattle.joins.specs.Filling.{Filled, fill}
 use Rattle.joins.specs.Joins.{rowOf}
-use Rattle.joins.proofs.Holding.{held-none, length-now}
-use Rattle.joins.proofs.Filling.{Filling, row-insertable, row-under, filling-row, filling-row-stop, filling-done}
+use Rattle.joins.proofs.Holding.{pairs-under, held-none, length-now}
+use Rattle.joins.proofs.Filling.{Filling, row-insertable, filling-row, filling-row-stop, filling-done}
 use Rattle.joins.proofs.join_lists.Statement.{statement}
 use Rattle.joins.proofs.join_lists.Tie as tie
 
@@ -42,9 +41,6 @@ own c = recordAt (start c .args .a .now) (c .before .loop .i)
 abbrev wanted : tie.Start Inv-loop μ-loop → Filled
 wanted c = fill [] (pairs (c .args .op) (left c) (right c))
 
-small : (c : tie.In-loop Inv-loop μ-loop) → Under speedLimit (own c)
-small c = record-under (start c .args .a .now) (c .before .loop .i) (λ i. c .before .before .before .before .shared-slice-known .given i .fits)
-
 abbrev this : tie.In-loop Inv-loop μ-loop → List Focal
 this c = rowOf (start c .args .op) (own c) (right (start c))
 
@@ -57,8 +53,11 @@ turn c =
     (records-next (start c .args .na) (c .before .loop .i) (start c .args .a .now) (c .loop-test .taken)) (c .before .loop .inv .1)
 
 -- What is handed on is the record.
-handed : (c : tie.After-weight-at Inv-loop μ-loop) → keyed (c .before .key-at .result) (c .weight-at .result) ≡ own (c .before .before)
-handed c = (λ t. keyed (c .before .key-at .ensures t) (c .weight-at .ensures t)) ∙ from-key (own (c .before .before)) (omega (arith, small (c .before .before)))
+abbrev read : tie.After-weight-at Inv-loop μ-loop → Focal
+read c = focal (c .before .before .low-at .result) (c .before .high-at .result) (c .weight-at .result)
+
+handed : (c : tie.After-weight-at Inv-loop μ-loop) → read c ≡ own (c .before .before .before)
+handed c = λ t. focal (c .before .before .low-at .ensures t) (c .before .high-at .ensures t) (c .weight-at .ensures t)
 
 loop-holds : tie.Need-loop-holds Inv-loop μ-loop
 loop-holds c =
@@ -67,8 +66,10 @@ loop-holds c =
       record {
         acc = [];
         held = held-none (s .args .out .now) (λ i. c .slice-known .given i .fits) (s .pre .0 .2);
-        under = s .pre .1 .0;
-        fits = omega (arith, s .pre .1 .1);
+        under =
+            pairs-under (s .args .op) (records-under (s .args .na) (s .args .a .now) (λ i. c .before .before .shared-slice-known .given i .fits))
+            (records-under (s .args .nb) (s .args .b .now) (λ i. c .before .shared-slice-known2 .given i .fits));
+        fits = omega (arith, s .pre .1);
         goal = refl;
       },
     )
@@ -76,32 +77,30 @@ loop-holds c =
 join-row-requires : tie.Need-join-row-requires Inv-loop μ-loop
 join-row-requires c κs =
     let w = c .before in
-    let i = w .before .before in
-    let e : this i ≡ rowOf (start i .args .op) (keyed (w .before .key-at .result) (w .weight-at .result)) (right (start i)) =
-    ap (λ (x : Focal). rowOf (start i .args .op) x (right (start i))) (sym (handed w)) in (
+    let i = w .before .before .before in
+    let e : this i ≡ rowOf (start i .args .op) (read w) (right (start i)) = ap (λ (x : Focal). rowOf (start i .args .op) x (right (start i))) (sym (handed w)) in (
       subst (λ (l : List Focal). Insertable (i .before .loop .out) (i .before .loop .m) (weights l)) e (row-insertable (this i) (later i) (turn i)),
-      (start i .pre .0 .1, subst (Every (Under speedLimit)) e (row-under (this i) (later i) (turn i))),
+      start i .pre .0 .1,
     )
 
 -- So the row is the record's.
-row : (c : tie.After-join-row Inv-loop μ-loop) → let i = c .before .before .before .before in
+row : (c : tie.After-join-row Inv-loop μ-loop) → let i = c .before .before .before .before .before in
     let l = i .before .loop in
-    (c .join-row .result .count ≡ fill (records (l .m) (l .out)) (this i) .count) × (c .join-row .last .1 .1 .1 .1 .1 .0 ≡ holding (l .out) (fill (records (l .m) (l .out)) (this i) .list))
+    (c .join-row .result .count ≡ fill (records (l .m) (l .out)) (this i) .count) × (c .join-row .last .1 .1 .1 .1 .1 .1 .0 ≡ holding (l .out) (fill (records (l .m) (l .out)) (this i) .list))
 row c =
     let w = c .before .before in
-    let i = w .before .before in
+    let i = w .before .before .before in
     let l = i .before .loop in
-    let e : rowOf (start i .args .op) (keyed (w .before .key-at .result) (w .weight-at .result)) (right (start i)) ≡ this i =
-    ap (λ (x : Focal). rowOf (start i .args .op) x (right (start i))) (handed w) in (
+    let e : rowOf (start i .args .op) (read w) (right (start i)) ≡ this i = ap (λ (x : Focal). rowOf (start i .args .op) x (right (start i))) (handed w) in (
       c .join-row .ensures .0 ∙ ap (λ (x : List Focal). fill (records (l .m) (l .out)) x .count) e,
       c .join-row .ensures .1 ∙ ap (λ (x : List Focal). holding (l .out) (fill (records (l .m) (l .out)) x .list)) e,
     )
 
 abbrev turn-of : tie.After-join-row Inv-loop μ-loop → tie.In-loop Inv-loop μ-loop
-turn-of c = c .before .before .before .before
+turn-of c = c .before .before .before .before .before
 
 same-length : tie.Need-same-length Inv-loop μ-loop
-same-length c = c .before .before .before .join-row .kept .1 .1 .1 .1 .1 .0 ∙ length-now (turn (turn-of (c .before .before .before)) .held)
+same-length c = c .before .before .before .join-row .kept .1 .1 .1 .1 .1 .1 .0 ∙ length-now (turn (turn-of (c .before .before .before)) .held)
 
 returns : tie.Need-returns Inv-loop μ-loop
 returns c =
@@ -129,6 +128,7 @@ join-lists-spec =
     Inv-loop
     μ-loop
     loop-holds
+    (λ c κs. omega arith)
     (λ c κs. omega arith)
     (λ c κs. omega arith)
     join-row-requires

@@ -2,30 +2,31 @@
 -- wanted. Assumes nothing.
 use mathlib.Core.Path.{_≡_, refl, sym, ap, _∙_, subst}
 use mathlib.Core.List.{List, [], _∷_}
-use Prim.Native.Nat.{ℕ, _≤_, _<_, _+_, _*_, _-_, _/_, _%_, _^_}
+use Prim.Native.Nat.{ℕ, _≤_, _<_, _+_, _*_, _-_, _^_}
 use native.Mathlib.Omega.{arith}
 use lib.ListN.{drop}
-use Rattle.theory.specs.Focal.{Focal, weights}
+use borrow.Author.Needs.{needs}
+use Rattle.theory.specs.Focal.{Focal, focal, weights}
 use Rattle.theory.specs.Joins.{joined, joinedFocal}
 use Rattle.records.specs.Records.{keyOf, keyed, recordAt, records, Under, speedLimit}
-use Rattle.records.proofs.Records.{key-ends, from-key, records-next, records-end, record-under}
+use Rattle.records.proofs.Records.{from-key, records-next, records-end, records-under}
 use Rattle.joins.specs.Filling.{Filled}
 use Rattle.joins.specs.Joins.{rowOf, filledRow}
-use Rattle.joins.proofs.Holding.{held, length-now, insertable}
-use Rattle.joins.proofs.Filling.{Filling, fits-now, under-now, filling-step, filling-stop, filling-done}
+use Rattle.joins.proofs.Holding.{joined-row-under, held, length-now, insertable}
+use Rattle.joins.proofs.Filling.{Filling, fits-now, filling-step, filling-stop, filling-done}
 use Rattle.joins.proofs.join_row.Statement.{statement}
 use Rattle.joins.proofs.join_row.Tie as tie
 
 abbrev Inv-loop : tie.InvT-loop
-Inv-loop op key weight b nb out₀ n hint low high m₀ first₀ at₀ j₀ out m first at j =
-    (j ≤ nb) × Filling out₀ out m (rowOf op (keyed key weight) (drop j (records nb b))) (filledRow op (keyed key weight) b nb out₀ n)
+Inv-loop op low high weight b nb out₀ n hint m₀ first₀ at₀ j₀ out m first at j =
+    (j ≤ nb) × Filling out₀ out m (rowOf op (focal low high weight) (drop j (records nb b))) (filledRow op (focal low high weight) b nb out₀ n)
 
 abbrev μ-loop : tie.MeasureT-loop
-μ-loop op key weight b nb out₀ n hint low high m₀ first₀ at₀ j₀ out m first at j = nb - j
+μ-loop op low high weight b nb out₀ n hint m₀ first₀ at₀ j₀ out m first at j = nb - j
 
 -- The interval of the row, the other list, and its interval in this turn.
 abbrev own : tie.Start Inv-loop μ-loop → Focal
-own c = keyed (c .args .key) (c .args .weight)
+own c = focal (c .args .low) (c .args .high) (c .args .weight)
 
 abbrev others : tie.Start Inv-loop μ-loop → List Focal
 others c = records (c .args .nb) (c .args .b .now)
@@ -42,9 +43,6 @@ pair c = joinedFocal (start c .args .op) (own (start c)) (other c)
 abbrev wanted : tie.Start Inv-loop μ-loop → Filled
 wanted c = filledRow (c .args .op) (own c) (c .args .b .now) (c .args .nb) (c .args .out .now) (c .args .n)
 
-small : (c : tie.In-loop Inv-loop μ-loop) → Under speedLimit (other c)
-small c = record-under (start c .args .b .now) (c .before .loop .j) (λ i. c .before .before .before .shared-slice-known .given i .fits)
-
 turn : (c : tie.In-loop Inv-loop μ-loop)
     → Filling (start c .args .out .now) (c .before .loop .out) (c .before .loop .m)
     (pair c ∷ rowOf (start c .args .op) (own (start c)) (drop (c .before .loop .j + 1) (others (start c)))) (wanted (start c))
@@ -52,28 +50,26 @@ turn c =
     subst (λ (l : List Focal). Filling (start c .args .out .now) (c .before .loop .out) (c .before .loop .m) (rowOf (start c .args .op) (own (start c)) l) (wanted (start c)))
     (records-next (start c .args .nb) (c .before .loop .j) (start c .args .b .now) (c .loop-test .taken)) (c .before .loop .inv .1)
 
-ends : (c : tie.After-key-at Inv-loop μ-loop) → (c .key-at .result / speedLimit ≡ other (c .before) .low) × (c .key-at .result % speedLimit ≡ other (c .before) .high)
-ends c = key-ends (other (c .before)) (c .key-at .ensures) (omega (arith, small (c .before)))
-
 -- What goes in is the pair.
 abbrev turn-of : tie.After-product-weight Inv-loop μ-loop → tie.In-loop Inv-loop μ-loop
-turn-of c = c .before .before .before .before .before
+turn-of c = c .before .before .before .before .before .before .before .before
 
 abbrev made : tie.After-product-weight Inv-loop μ-loop → Focal
-made c = record { low = c .before .before .before .join-speeds .result; high = c .before .before .join-speeds2 .result; weight = c .product-weight .result }
+made c = record { low = c .before .before .before .widened .result; high = c .before .before .widened2 .result; weight = c .product-weight .result }
 
 made-is : (c : tie.After-product-weight Inv-loop μ-loop) → made c ≡ pair (turn-of c)
 made-is c =
-    let k = ends (c .before .before .before .before) in
+    let w = c .before .before .before in
+    let h = w .before .before in
     let a = start (turn-of c) .args in
     λ t. record {
-      low = (c .before .before .before .join-speeds .ensures ∙ ap (joined (a .op) (own (start (turn-of c)) .low)) (k .0)) t;
-      high = (c .before .before .join-speeds2 .ensures ∙ ap (joined (a .op) (own (start (turn-of c)) .high)) (k .1)) t;
+      low = (w .widened .ensures .0 ∙ h .before .join-speeds .ensures ∙ ap (joined (a .op) (a .low)) (h .before .before .low-at .ensures)) t;
+      high = (c .before .before .widened2 .ensures .0 ∙ w .before .join-speeds2 .ensures ∙ ap (joined (a .op) (a .high)) (h .high-at .ensures)) t;
       weight = (c .product-weight .ensures ∙ ap (λ (w : ℕ). a .weight * w) (c .before .weight-at .ensures)) t;
     }
 
 made-under : (c : tie.After-product-weight Inv-loop μ-loop) → Under speedLimit (made c)
-made-under c = subst (Under speedLimit) (sym (made-is c)) (under-now (turn (turn-of c)))
+made-under c = (c .before .before .before .widened .ensures .1, c .before .before .widened2 .ensures .1)
 
 given : (c : tie.After-product-weight Inv-loop μ-loop) → keyed (keyOf (made c)) (made c .weight) ≡ pair (turn-of c)
 given c = from-key (made c) (made-under c .1) ∙ made-is c
@@ -85,20 +81,15 @@ loop-holds c =
       record {
         acc = records (s .args .n) (s .args .out .now);
         held = held (s .args .out .now) (s .args .n) _ (λ i. c .slice-known .given i .fits) (s .pre .0);
-        under = s .pre .1 .1;
+        under =
+            joined-row-under (s .args .op) (own s) (omega arith, omega arith) (records-under (s .args .nb) (s .args .b .now) (λ i. c .before .shared-slice-known .given i .fits));
         fits = s .pre .0 .fits;
         goal = refl;
       },
     )
 
-join-speeds-requires : tie.Need-join-speeds-requires Inv-loop μ-loop
-join-speeds-requires c κs = omega (arith, ends c, small (c .before), start (c .before) .pre)
-
-join-speeds-requires-2 : tie.Need-join-speeds-requires-2 Inv-loop μ-loop
-join-speeds-requires-2 c κs = omega (arith, ends (c .before), small (c .before .before), start (c .before .before) .pre)
-
 product-weight-requires : tie.Need-product-weight-requires Inv-loop μ-loop
-product-weight-requires c κs = rw (c .weight-at .ensures) (omega (arith, fits-now (turn (c .before .before .before .before))))
+product-weight-requires c κs = rw (c .weight-at .ensures) (omega (arith, fits-now (turn (c .before .before .before .before .before .before .before))))
 
 insert-requires : tie.Need-insert-requires Inv-loop μ-loop
 insert-requires c κs =
@@ -136,12 +127,15 @@ join-row-spec =
     μ-loop
     loop-holds
     (λ c κs. omega arith)
-    join-speeds-requires
-    join-speeds-requires-2
+    (λ c κs. search needs)
+    (λ c κs. omega arith)
+    (λ c κs. search needs)
+    (λ c κs. search needs)
+    (λ c. omega (arith, c .widened .ensures))
+    (λ c κs. search needs)
+    (λ c. omega (arith, c .before .widened .ensures, c .widened2 .ensures))
     (λ c κs. omega arith)
     product-weight-requires
-    (λ c. omega (arith, made-under (c .before)))
-    (λ c. omega (arith, made-under (c .before)))
     insert-requires
     same-length
     returns

@@ -12,6 +12,6 @@ join-speeds-spec =
     (tie.spec (λ c. search needs) (λ c. search needs) (λ c. search needs) (λ c. search needs)
     (λ c. rw (c .before .enum-told .given .1) (sym (min-eq-left (omega arith))))
     (λ c. rw (c .before .enum-told .given .1) (sym (min-eq-right (omega arith))))
-    (λ c. rw (c .enum-told2 .given .1))
+    (λ c. rw (c .before .enum-told2 .given .1) (c .capped-sum .ensures))
     (λ c. rw (c .before .enum-told3 .given .1) (sym (max-eq-right (omega arith))))
     (λ c. rw (c .before .enum-told3 .given .1) (sym (max-eq-left (omega arith)))))
