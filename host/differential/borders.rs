@@ -1,6 +1,6 @@
 //! The borders that a run has to meet: values at a limit and one beyond.
 
-use crate::choices::{Focal, Run, MOST, MOST_PAIRS, WITH_REST};
+use crate::choices::{self, Focal, Run, CEILING, MOST, MOST_PAIRS, WITH_REST};
 use crate::expect::{
     right_length, right_target, Asked, Question, Reply, Set, DEMAND_BYTES, LENGTH_BYTES, LIST_BYTES, MOST_DEMANDS,
     TOP_TARGET,
@@ -26,6 +26,15 @@ borders! {
     Pairs81: "a join of two components with lists of nine intervals: 81 pairs",
     Choices262144: "six components of eight intervals and no rest: 224 bytes, 262,144 choices",
     Choices531441: "six components of eight intervals and a rest: 224 bytes, 531,441 choices",
+    SumAt: "two speeds above 0 in a shared join that add to 4,095",
+    CutHigh: "highs in a shared join that add to more than 4,095, and their lows do not",
+    CutBoth: "lows in a shared join that add to more than 4,095",
+    CutList: "a drive's list that is shorter by the ceiling of shared joins",
+    CutPairs: "a pair count that is smaller by the ceiling",
+    Cut256: "a join's list of 256 intervals that is shorter by the ceiling",
+    Cut257: "a join's list of 257 intervals that is shorter by the ceiling, refused",
+    Cut13: "a sheet that is 13 without the ceiling, accepted",
+    Cut14: "a sheet that is 14 without the ceiling, accepted",
     RestNone: "no rest: in each component the weights add to T",
     Rest1: "a rest of 1",
     Rest999: "a rest of 999",
@@ -48,6 +57,9 @@ borders! {
     DemandAboveLow: "a demand one above a low",
     DemandHigh: "a demand at a high",
     DemandAboveHigh: "a demand one above a high",
+    DemandCeiling: "demand 4,095 where lows exceed it without the ceiling: belief above 0",
+    DemandCeilingHigh: "demand 4,095 where only highs exceed it without the ceiling: plausibility above 0",
+    DemandAboveCeiling: "demand 4,096 that is met by nothing, and by highs without the ceiling",
     DemandZero: "demand 0",
     DemandMost: "demand 2^32 - 1",
     SetOne: "a set of one demand",
@@ -61,6 +73,7 @@ borders! {
     SetHigh: "a demand of a set at a high",
     SetAboveHigh: "a demand of a set one above a high",
     SetEnds: "demand 0 and one above every speed in one set",
+    SetCeiling: "demands 4,095 and 4,096 in one set, where highs meet both without the ceiling",
     SetNone: "no demands, refused",
     SetAboveMost: "demands of 68 bytes, refused",
     SetPart: "demands of a length below 64 and not divisible by 4, refused",
@@ -99,7 +112,7 @@ borders! {
     TargetRounded: "a target that a faster low misses by less than 1 of the total",
     TargetUnder: "a target that a faster low misses by less than 1 of a total whose thousandfold exceeds 64 bits",
     SpeedZero: "a speed of 0",
-    SpeedSum: "a speed above 4,095",
+    SpeedCeiling: "a speed of 4,095 that is greater without the ceiling",
     SpeedShared: "a speed that is the low of several intervals",
     SpeedFirst: "a speed that is the first of several lows",
     SpeedLast: "a speed that is the last of several lows",
@@ -276,6 +289,10 @@ impl Borders {
         let joins = &run.joins;
         self.met(Border::Intervals257, number == 14 && joins[joins.len() - 1].intervals == MOST + 1);
         self.met(Border::AllowanceLess, number == 13 && joins.iter().any(|join| join.pairs == allowance + 1));
+        // Plans with more choices would take too long a second time.
+        if run.sums.above() && run.choices <= 8_192 && matches!(number, 0 | 14) {
+            self.of_ceiling(run, question, number);
+        }
         if number != 0 {
             return;
         }
@@ -286,6 +303,7 @@ impl Borders {
         self.met(Border::Pairs81, joins.first().is_some_and(|join| join.pairs == 81));
         self.met(Border::Choices262144, run.choices == INTERVALS.pow(COMPONENTS as u32) && !run.plan.has_rest());
         self.met(Border::Choices531441, run.choices == WITH_REST.pow(COMPONENTS as u32));
+        self.met(Border::SumAt, run.sums.at);
         self.of_rests(&run.plan);
         self.of_list(run);
         self.met(Border::Total, run.total == 10u64.pow(18));
@@ -301,6 +319,43 @@ impl Borders {
                 self.of_demands(&run.list, &values, at);
             }
             Asked::Target(target) => self.of_speed(run, *target, expected.answers.first().demand),
+        }
+    }
+
+    /// What the ceiling of shared joins does: the same plan without it has more intervals, more pairs, greater speeds.
+    fn of_ceiling(&mut self, run: &Run, question: &Question, number: u32) {
+        let without = choices::run_without_ceiling(&run.plan);
+        let shorter = |size: usize| {
+            let mut joins = run.joins.iter().zip(&without.joins);
+            joins.any(|(join, without)| join.intervals == size && without.intervals > size)
+        };
+        self.met(Border::Cut257, number == 14 && shorter(MOST + 1));
+        if number != 0 {
+            return;
+        }
+        self.met(Border::CutHigh, run.sums.high_above);
+        self.met(Border::CutBoth, run.sums.both_above);
+        self.met(Border::Cut256, shorter(MOST));
+        self.met(Border::Cut13, without.number(question.allowance) == 13);
+        self.met(Border::Cut14, without.number(question.allowance) == 14);
+        if without.list.is_empty() {
+            return;
+        }
+        self.met(Border::CutList, run.list.len() < without.list.len());
+        self.met(Border::CutPairs, run.pairs() < without.pairs());
+        let (lows, highs) = (without.belief(CEILING + 1), without.plausibility(CEILING + 1));
+        match &question.asked {
+            Asked::Demand(demand) => {
+                self.met(Border::DemandCeiling, *demand == CEILING && lows > 0);
+                self.met(Border::DemandCeilingHigh, *demand == CEILING && lows == 0 && highs > 0);
+                self.met(Border::DemandAboveCeiling, *demand == CEILING + 1 && highs > 0);
+            }
+            Asked::Set(set) => {
+                let values = set.values();
+                let both = values.contains(&CEILING) && values.contains(&(CEILING + 1));
+                self.met(Border::SetCeiling, both && highs > 0);
+            }
+            Asked::Target(target) => self.met(Border::SpeedCeiling, without.over(lows, *target) >= 0),
         }
     }
 
@@ -351,7 +406,6 @@ impl Borders {
             self.met(Border::TargetUnder, large && missed > -1_000);
         }
         self.met(Border::SpeedZero, speed == 0);
-        self.met(Border::SpeedSum, speed > TOP_SPEED.into());
         self.met(Border::SpeedShared, lows().filter(|low| *low == speed).count() > 1);
         let (first, last) = (lows().next(), lows().last());
         self.met(Border::SpeedFirst, first != last && first == Some(speed));

@@ -1,7 +1,7 @@
 //! What a case puts to a call: a sheet or a plan, a demand, a set of them or a target, an allowance, the lengths of the
 //! buffers.
 
-use crate::choices::{Run, MOST_PAIRS};
+use crate::choices::{Run, CEILING, MOST_PAIRS};
 use crate::damage::{self, break_plan, litter, OF_PLAN, RULES_OF_PLAN};
 use crate::expect::{Asked, Question, Set, DEMAND_BYTES, LIST_BYTES, MOST_DEMANDS, SHARES_BYTES, TOP_TARGET};
 use crate::plan::Plan;
@@ -89,14 +89,15 @@ pub fn question(random: &mut Random, call: usize, run: Option<&Run>) -> Question
     }
 }
 
-/// A demand at, above or below the ends of the drive's intervals, at the ends of its own range, or anything.
+/// A demand at, above or below the ends of the drive's intervals, at the greatest speed or one above, at the ends of
+/// its own range, or anything.
 fn demand(random: &mut Random, run: Option<&Run>) -> u32 {
     let end = match run.filter(|run| !run.list.is_empty()) {
         Some(run) => {
             let focal = random.pick(&run.list);
             random.pick(&[focal.low, focal.high])
         }
-        None => random.between(0, 4_096) as u32,
+        None => random.between(0, CEILING as usize + 1) as u32,
     };
     match random.below(16) {
         0..=4 => end,
@@ -105,7 +106,10 @@ fn demand(random: &mut Random, run: Option<&Run>) -> u32 {
         11 => 0,
         12 => u32::MAX,
         13 => end + (random.between(1, 65_535) << 16) as u32, // its low bits are an end
-        14 => random.between(0, 25_000) as u32,
+        14 => {
+            let any = random.between(0, 25_000) as u32;
+            random.pick(&[any, CEILING, CEILING + 1])
+        }
         _ => random.next() as u32,
     }
 }

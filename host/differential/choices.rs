@@ -14,8 +14,8 @@ pub const MOST: usize = 256;
 const COUNTED: usize = 2 * MOST;
 /// The most pairs: two groups of three components, each joined to 81 intervals, then to 256, and the two lists joined.
 pub const MOST_PAIRS: u32 = 2 * (81 + 729) + 256 * 256;
-/// The greatest speed that a drive can have, since shared joins add.
-const TOP_SUM: usize = COMPONENTS * TOP_SPEED as usize;
+/// The greatest speed that a shared join gives, however great the sum.
+pub const CEILING: u32 = TOP_SPEED as u32;
 
 #[derive(Clone, Copy, Default)]
 pub struct Focal {
@@ -51,6 +51,34 @@ pub struct Run {
     pub total: u64,
     /// The choices of one interval per component.
     pub choices: usize,
+    pub sums: Sums,
+}
+
+/// The ceiling of shared joins, and which sums they met in all choices.
+#[derive(Default)]
+pub struct Sums {
+    ceiling: u32,
+    /// Lows that add to more than the ceiling, and highs with them.
+    pub both_above: bool,
+    /// Highs that do, of which the lows do not.
+    pub high_above: bool,
+    /// Two speeds above 0 that add to the ceiling.
+    pub at: bool,
+}
+
+impl Sums {
+    fn meet(&mut self, left: &Focal, right: &Focal) {
+        let (low, high) = (left.low + right.low, left.high + right.high);
+        self.both_above |= low > self.ceiling;
+        self.high_above |= high > self.ceiling && low <= self.ceiling;
+        self.at |= low == self.ceiling && left.low > 0 && right.low > 0;
+        self.at |= high == self.ceiling && left.high > 0 && right.high > 0;
+    }
+
+    /// Whether the ceiling changes any.
+    pub fn above(&self) -> bool {
+        self.both_above || self.high_above
+    }
 }
 
 impl Run {
@@ -88,11 +116,12 @@ impl Run {
     /// The greatest demand whose belief meets a target of 1 to 1,000. Every demand is looked at, up to one above the
     /// speeds that a drive can have; from there on belief is 0.
     pub fn speed(&self, target: u32) -> u32 {
-        let mut beliefs = vec![0; TOP_SUM + 2]; // by demand
+        let top = CEILING as usize;
+        let mut beliefs = vec![0; top + 2]; // by demand
         for focal in &self.list {
             beliefs[focal.low as usize] += focal.weight;
         }
-        for demand in (0..=TOP_SUM).rev() {
+        for demand in (0..=top).rev() {
             beliefs[demand] += beliefs[demand + 1];
         }
         let met = (0..beliefs.len()).filter(|demand| self.over(beliefs[*demand], target) >= 0);
@@ -102,21 +131,31 @@ impl Run {
 
 /// Runs a plan that keeps the rules.
 pub fn run(plan: &Plan) -> Run {
+    run_up_to(plan, CEILING)
+}
+
+/// The same if shared joins just added.
+pub fn run_without_ceiling(plan: &Plan) -> Run {
+    run_up_to(plan, u32::MAX)
+}
+
+fn run_up_to(plan: &Plan, ceiling: u32) -> Run {
     let components: Vec<Vec<Focal>> = plan.used().iter().map(of_component).collect();
     let total = plan.used().iter().map(|component| u64::from(component.total)).product();
     let choices = components.iter().map(Vec::len).product();
-    let mut run = Run { plan: *plan, joins: Vec::new(), list: Vec::new(), total, choices };
+    let sums = Sums { ceiling, ..Sums::default() };
+    let mut run = Run { plan: *plan, joins: Vec::new(), list: Vec::new(), total, choices, sums };
     let structure = plan.structure();
     let mut stack: Vec<(usize, usize)> = Vec::new(); // where a sub-structure starts, and its number of intervals
     for (place, entry) in structure.iter().enumerate() {
         if *entry < SERIES {
-            run.list = list(&components, &structure[place..=place]);
+            run.list = list(&components, &structure[place..=place], &mut run.sums);
             stack.push((place, run.list.len()));
             continue;
         }
         let (_, right) = stack.pop().expect("two lists");
         let (start, left) = stack.pop().expect("two lists");
-        run.list = list(&components, &structure[start..=place]);
+        run.list = list(&components, &structure[start..=place], &mut run.sums);
         stack.push((start, run.list.len()));
         run.joins.push(Join { pairs: run.pairs() + (left * right) as u64, intervals: run.list.len() });
         if run.list.len() > MOST {
@@ -150,13 +189,13 @@ fn add(list: &mut Vec<Focal>, new: Focal) {
 
 /// The intervals of a sub-structure in descending order of low, then of high, each once, with the weights of all
 /// choices that give it.
-fn list(components: &[Vec<Focal>], structure: &[u16]) -> Vec<Focal> {
+fn list(components: &[Vec<Focal>], structure: &[u16], sums: &mut Sums) -> Vec<Focal> {
     let mut list = Vec::new();
     let under: Vec<usize> =
         structure.iter().filter(|entry| **entry < SERIES).map(|entry| usize::from(*entry)).collect();
     let mut choice = [0; COMPONENTS]; // for each component the place of its interval
     loop {
-        add(&mut list, evaluate(components, structure, &choice));
+        add(&mut list, evaluate(components, structure, &choice, sums));
         if list.len() > COUNTED || !advance(components, &under, &mut choice) {
             return list;
         }
@@ -176,7 +215,7 @@ fn advance(components: &[Vec<Focal>], under: &[usize], choice: &mut [usize; COMP
 }
 
 /// One choice through a structure: lows and highs are joined separately, weights are multiplied.
-fn evaluate(components: &[Vec<Focal>], structure: &[u16], choice: &[usize; COMPONENTS]) -> Focal {
+fn evaluate(components: &[Vec<Focal>], structure: &[u16], choice: &[usize; COMPONENTS], sums: &mut Sums) -> Focal {
     let mut stack = [Focal::default(); COMPONENTS];
     let mut height = 0;
     for entry in structure {
@@ -186,9 +225,12 @@ fn evaluate(components: &[Vec<Focal>], structure: &[u16], choice: &[usize; COMPO
             height += 1;
         } else {
             let (left, right) = (stack[height - 2], stack[height - 1]);
+            if *entry == SHARED {
+                sums.meet(&left, &right);
+            }
             stack[height - 2] = Focal {
-                low: joined(*entry, left.low, right.low),
-                high: joined(*entry, left.high, right.high),
+                low: joined(*entry, left.low, right.low, sums.ceiling),
+                high: joined(*entry, left.high, right.high, sums.ceiling),
                 weight: left.weight * right.weight,
             };
             height -= 1;
@@ -197,10 +239,10 @@ fn evaluate(components: &[Vec<Focal>], structure: &[u16], choice: &[usize; COMPO
     stack[0]
 }
 
-fn joined(join: u16, left: u32, right: u32) -> u32 {
+fn joined(join: u16, left: u32, right: u32, ceiling: u32) -> u32 {
     match join {
         SERIES => left.min(right),
-        SHARED => left + right,
+        SHARED => (left + right).min(ceiling),
         _ => left.max(right),
     }
 }

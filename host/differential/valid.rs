@@ -33,6 +33,8 @@ pub fn to_run(random: &mut Random) -> Plan {
         1_260..=1_799 => up_to(random, 2_048),
         1_800..=2_199 => heaviest(up_to(random, 256)),
         2_200..=2_999 => next_to_thousandths(random),
+        3_000..=3_399 => about_ceiling(random),
+        3_400..=3_599 => ladder_past_ceiling(random),
         _ => up_to(random, 256),
     }
 }
@@ -40,12 +42,35 @@ pub fn to_run(random: &mut Random) -> Plan {
 /// A plan with at most so many choices.
 fn up_to(random: &mut Random, most: usize) -> Plan {
     let n = random.pick(&[1, 2, 2, 2, 3, 3, 3, 4, 4, 5, 5, 6]);
+    let counts = counts(random, n, most);
+    mixed(random, &counts)
+}
+
+/// Numbers of intervals for n components, with at most so many choices.
+fn counts(random: &mut Random, n: usize, most: usize) -> Vec<usize> {
     let mut counts: Vec<usize> = (0..n).map(|_| random.between(1, WITH_REST)).collect();
     while counts.iter().product::<usize>() > most {
         let component = random.below(n);
         counts[component] = counts[component].div_ceil(2);
     }
-    mixed(random, &counts)
+    counts
+}
+
+/// A drive whose shared joins give about 4,095: sums of the speeds of two, three or four components are just below it,
+/// at it or just above.
+fn about_ceiling(random: &mut Random) -> Plan {
+    let n = random.between(2, 4);
+    let middle = TOP_SPEED / random.between(2, n) as u16;
+    let mut speeds: Vec<u16> = (middle - 3..=middle + 4).collect();
+    if random.chance(30) {
+        speeds.extend([0, 1, TOP_SPEED]);
+    }
+    let mut components = Vec::new();
+    for count in counts(random, n, 256) {
+        let (single, rest) = (random.chance(50), random.chance(20));
+        components.push(component(random, if rest { count } else { INTERVALS.min(count) }, &speeds, single, rest));
+    }
+    plan(&components, &joined(random, n, &[&[SHARED], &[SERIES, SHARED, SHARED, SPARE]]))
 }
 
 /// The plan with a T of 1,000 in each component; the rests stay.
@@ -214,9 +239,14 @@ fn weighted(random: &mut Random, mut ends: Vec<Ends>, rest: bool) -> Component {
 
 /// A structure of n components in any order, joined in any order.
 fn structure(random: &mut Random, n: usize) -> Vec<u16> {
+    joined(random, n, &[&[SERIES, SHARED, SPARE], &[SERIES, SPARE], &[SHARED], &[SERIES], &[SPARE]])
+}
+
+/// The same with joins drawn from one of these.
+fn joined(random: &mut Random, n: usize, kinds: &[&[u16]]) -> Vec<u16> {
     let mut names: Vec<u16> = (0..n as u16).collect();
     random.shuffle(&mut names);
-    let joins = random.pick(&[&[SERIES, SHARED, SPARE][..], &[SERIES, SPARE], &[SHARED], &[SERIES], &[SPARE]]);
+    let joins = random.pick(kinds);
     let early = random.pick(&[0, 50, 100]); // how often a join comes before the next component
     let mut entries = Vec::new();
     let mut lists = 0;
@@ -232,7 +262,8 @@ fn structure(random: &mut Random, n: usize) -> Vec<u16> {
     entries
 }
 
-/// A ladder: components whose intervals stand on steps, so that a shared join adds steps.
+/// A ladder: components whose intervals stand on steps, so that a shared join adds steps. The sums of three are 4,095 at
+/// most, but for the highs of `Rung::Low`, unless the components are moved far up or the unit is great.
 struct Ladder {
     /// How many intervals each of its first two components has: eight or nine.
     base: u16,
@@ -248,23 +279,23 @@ struct Ladder {
 enum Rung {
     /// That speed.
     Single,
-    /// The interval from that speed to 4,095: on step 0 the one that a rest counts as.
+    /// The interval from that speed to 4,095: on step 0 the one that a rest counts as. Their joins have no other high.
     Low,
-    /// The interval from 0 to 4,095 less that speed: on step 0 the same.
+    /// The interval from 0 to a third of 4,095 less that speed.
     High,
 }
 
 impl Ladder {
-    /// Of any kind; nine intervals need a rest.
+    /// Of any kind; nine intervals need a rest, and that needs `Rung::Low`.
     fn of(random: &mut Random, base: usize) -> Ladder {
         let rest = base > INTERVALS || random.chance(30);
         let rungs = [Rung::Low, Rung::High, Rung::Single, Rung::Single, Rung::Single];
-        let rung = random.pick(if rest { &rungs[..2] } else { &rungs });
-        Ladder { base: base as u16, unit: random.between(1, 8) as u16, rung, rest }
+        let rung = random.pick(if rest { &rungs[..1] } else { &rungs });
+        Ladder { base: base as u16, unit: random.between(1, 7) as u16, rung, rest }
     }
 
-    /// Three components whose shared join has exactly `size` intervals: 0 to b - 1 units, 0 to b - 1 times b units, and
-    /// `last` steps at most b * b units apart, so that the b * b sums of the first two overlap from one to the next.
+    /// Three components whose intervals have exactly `size` different sums: 0 to b - 1 units, 0 to b - 1 times b units,
+    /// and `last` steps at most b * b units apart, so that the b * b sums of the first two overlap from one to the next.
     fn rungs(&self, random: &mut Random, size: usize, last: usize) -> [Vec<Ends>; 3] {
         let base = self.base;
         let sums = base * base;
@@ -286,7 +317,7 @@ impl Ladder {
         match self.rung {
             Rung::Single => speeds.map(|speed| (speed, speed)).collect(),
             Rung::Low => speeds.map(|speed| (speed, TOP_SPEED)).collect(),
-            Rung::High => speeds.rev().map(|speed| (0, TOP_SPEED - speed)).collect(),
+            Rung::High => speeds.rev().map(|speed| (0, TOP_SPEED / 3 - speed)).collect(),
         }
     }
 
@@ -303,21 +334,56 @@ impl Ladder {
 fn ladder(random: &mut Random) -> Plan {
     let size: usize = random.pick(&[255, 256, 256, 256, 257, 257, 257, 258]);
     let base = random.pick(&[INTERVALS, INTERVALS, WITH_REST]);
-    let sums = base * base;
-    let last = random.between((size - sums).div_ceil(sums) + 1, base);
+    let last = last_steps(random, base, size);
     let ladder = Ladder::of(random, base);
     let mut components = Vec::new();
     for ends in ladder.rungs(random, size, last) {
         let (by, width) = (random.pick(&[0, 0, 1, 100]), random.pick(&[0, 0, 1, 7]));
         components.push(ladder.component(random, ends, by, width));
     }
+    with_further(random, components, ladder.unit)
+}
+
+/// How many steps the third component of a ladder can have.
+fn last_steps(random: &mut Random, base: usize, size: usize) -> usize {
+    let sums = base * base;
+    random.between((size - sums).div_ceil(sums) + 1, base)
+}
+
+/// A ladder whose top steps pass 4,095, where they become one. Its join has 255 to 258 intervals and would have more.
+/// With rests step 0 cannot be moved up; the steps are then so great that the join has 257 intervals or fewer.
+fn ladder_past_ceiling(random: &mut Random) -> Plan {
+    let rest = random.chance(30);
+    let base = if rest { random.pick(&[INTERVALS, WITH_REST]) } else { INTERVALS };
+    let (rung, unit, steps, mut up) = if rest {
+        (Rung::Low, random.between(16, 20), random.between(257, 264), 0)
+    } else {
+        let (size, unit) = (random.pick(&[255, 256, 256, 256, 257, 257, 258]), random.between(1, 7));
+        // Of the steps from 0 on, number size - 1 is the first that is not below 4,095.
+        let up = usize::from(TOP_SPEED) - unit * (size - 1) + random.below(unit);
+        (Rung::Single, unit, size + random.between(1, 40), up)
+    };
+    let last = last_steps(random, base, steps);
+    let ladder = Ladder { base: base as u16, unit: unit as u16, rung, rest };
+    let mut components = Vec::new();
+    for ends in ladder.rungs(random, steps, last) {
+        let by = if components.len() < 2 { random.between(0, up) } else { up };
+        up -= by;
+        let width = random.pick(&[0, 0, 1, 7]);
+        components.push(ladder.component(random, ends, by as u16, width));
+    }
+    with_further(random, components, ladder.unit)
+}
+
+/// Three components, shared in any order, and up to three further ones joined to them.
+fn with_further(random: &mut Random, mut components: Vec<Component>, unit: u16) -> Plan {
     let mut names = [0, 1, 2];
     random.shuffle(&mut names);
     let [a, b, c] = names;
     let mut entries = random.pick(&[[a, b, SHARED, c, SHARED], [a, b, c, SHARED, SHARED]]).to_vec();
     for further in 3..random.pick(&[3, 3, 3, 4, 4, 5, 6]) {
         let (count, single, rest) = (random.between(1, 2), random.chance(50), random.chance(20));
-        components.push(component(random, count, &[0, 1, ladder.unit, 300, 1_000, TOP_SPEED], single, rest));
+        components.push(component(random, count, &[0, 1, unit, 300, 1_000, TOP_SPEED], single, rest));
         entries.extend([further, random.pick(&[SERIES, SHARED, SPARE])]);
     }
     plan(&components, &entries)
