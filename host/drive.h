@@ -45,8 +45,8 @@
  *
  * Words
  *   module     a part of the drive, numbered from 0 in the order of the plan.
- *   speed      a whole number of millimetres a second (10 km/h is 2,778). A module's speeds are 0 to 4,095; a drive's may be
- *              higher, since shared joins add.
+ *   speed      a whole number of millimetres a second (10 km/h is 2,778), from 0 to 4,095, of a module as of the drive: the makers'
+ *              group has agreed that a controller never lets a chair exceed 4,095.
  *   interval   a low and a high speed, both inside it. Low may equal high; intervals may overlap.
  *   weight     a module has a total T from 1 to 1,000. The weight of an interval over T is the share of time of which is known
  *              only that the speed lies in that interval. A module's weights add to its T or to less.
@@ -57,14 +57,15 @@
  *   join       takes two lists of intervals. Every interval of one meets every interval of the other: weights are multiplied,
  *              lows and highs are joined separately, and equal intervals become one, their weights added.
  *                series   the smaller speed (two motor drivers; the slower one rules)
- *                shared   the sum           (two modules that drive together; the speed of each is its own part of the sum)
+ *                shared   the sum or 4,095, whichever is smaller (two modules that drive together; the speed of each is its own part
+ *                         of the sum)
  *                spare    the larger speed  (a second joystick)
  *   entry      one step of the structure, which says how the modules are joined, on a stack: a module's number puts its list on the
  *              stack, a join's code takes the two topmost lists and puts their join back. n modules take 2n - 1 entries.
  *              "Module 0 or its spare, module 1; both in series with module 2" is 0, 1, SPARE, 2, SERIES.
  *   list       the intervals of the whole drive with their weights, in descending order of low, then of high: the fastest first.
  *              Plans and sheets have a module's intervals the other way round, in ascending order.
- *   demand     a speed that is asked about; any 32-bit number.
+ *   demand     a speed that is asked about; any 32-bit number. Above 4,095 it is met by nothing: both shares are 0.
  *   target     a share of the time that is asked about, in thousandths: 1 to 1,000.
  *   pairs      a join of lists of a and b intervals forms a times b pairs. The pair count is the sum of this over all joins.
  *
@@ -90,8 +91,9 @@
  *   Independence One battery behind two drivers breaks it: they slow down together, and the bounds are then not those of the chair.
  *                Put a common cause into the plan once, as a module of its own in series with what depends on it, and log the
  *                others without its effect.
- *   No limit     A module that never limits the drive is best left out. An interval from 4,095 to 4,095 is a limit of 4,095, which
- *                rules where it stands in series with a shared join that adds up to more.
+ *   No limit     Hours in which a module in series was not in the way are an interval from 4,095 to 4,095: no speed exceeds that, so it
+ *                limits nothing. A module that never limits the drive is best left out: with that interval alone it changes no share
+ *                of the time, and costs pairs.
  */
 #ifndef DRIVE_H
 #define DRIVE_H
@@ -104,19 +106,23 @@ extern "C" {
 #endif
 
 /* The version of this header and of the library that it came with. The soname has the first number. What changed
+ *   from 3.0.0 to 4.0.0   a shared join gives the sum or 4,095, whichever is smaller, where it gave the sum. Above 4,095 shares are 0,
+ *                         and a promised speed is 4,095 where it was more; other shares and speeds are the same. Where sums exceed
+ *                         4,095 lists may be others and shorter, and pair counts smaller: what was 13 may be accepted, what was 14
+ *                         accepted or refused at a later join
  *   from 2.0.0 to 3.0.0   the list stands in descending order of low, then of high, where it ascended: of n records, what was record i
  *                         is record n - 1 - i, and no compiler says so. Plans, sheets, numbers and all other answers are the same
  *   from 1.2.0 to 2.0.0   weights that add to less than T leave a rest, where they were number 8; DRIVE_PAIRS_MAX was 66,688;
  *                         drive_plan_rest is new */
-#define DRIVE_VERSION_MAJOR 3
+#define DRIVE_VERSION_MAJOR 4
 #define DRIVE_VERSION_MINOR 0
 #define DRIVE_VERSION_PATCH 0
-#define DRIVE_VERSION "3.0.0"
+#define DRIVE_VERSION "4.0.0"
 
 /* The limits of a plan of edition one, and the codes of its joins. Edition two will have others. */
 #define DRIVE_MODULES_MAX 6
 #define DRIVE_MODULE_INTERVALS_MAX 8 /* of one module, the rest not counted */
-#define DRIVE_SPEED_MAX 4095         /* of one module */
+#define DRIVE_SPEED_MAX 4095         /* of a module and of every list */
 #define DRIVE_MODULE_TOTAL_MAX 1000  /* T */
 #define DRIVE_ENTRIES_MAX 11         /* 2n - 1 of six modules */
 #define DRIVE_ED1_SERIES 8
@@ -332,8 +338,8 @@ uint32_t drive_read_sheet(const uint8_t *sheet, size_t sheet_length, uint8_t *pl
 
 /* Answers how much of the time the drive has at least the speed that is asked for.
  *   sheet, sheet_length     the sheet; it is only read. Its length is part of it: pass the sheet's own, not the buffer's
- *   demand                  the speed asked for, any 32-bit number. It comes before the allowance: exchanged, the two are accepted,
- *                           with shares of 0
+ *   demand                  the speed asked for, any 32-bit number; above DRIVE_SPEED_MAX both shares are 0. It comes before the
+ *                           allowance: exchanged, the two are accepted, with shares of 0
  *   allowance               the most pairs that the joins may form, which limits the time of the call. Unless time matters pass
  *                           DRIVE_PAIRS_MAX: the number is then never 13. The repository's README.md, "Speed", has the time of a pair
  *   list, list_length       the list buffer: working memory, and the drive's list afterwards
@@ -397,7 +403,8 @@ uint32_t drive_set(const uint8_t *sheet, size_t sheet_length, const uint8_t *dem
  *
  * The comparison is exact: 1000 * belief is at least target * total. Both products may exceed 64 bits: a program that repeats it
  * needs unsigned __int128. drive_bounds with the speed as its demand gives the same answers; one mm/s faster, its belief is below
- * the target. A speed of 0 says that at that share the logs vouch for none above 0. */
+ * the target. A speed of 0 says that at that share the logs vouch for none above 0. No speed answered is above
+ * DRIVE_SPEED_MAX. */
 uint32_t drive_speed(const uint8_t *sheet, size_t sheet_length, uint32_t target, uint32_t allowance, uint8_t *list,
                      size_t list_length, uint8_t *answer, size_t answer_length);
 

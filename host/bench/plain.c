@@ -150,11 +150,11 @@ static inline int insert(struct list *l, struct focal f) {
 static unsigned smaller(unsigned x, unsigned y) { return x < y ? x : y; }
 static unsigned larger(unsigned x, unsigned y) { return x > y ? x : y; }
 
-/* Lows and highs are joined separately. */
+/* Lows and highs are joined separately. A sum is at most the greatest speed; one of highs does not reach the bits of the low. */
 static uint32_t join_keys(unsigned entry, uint32_t x, uint32_t y) {
     switch (entry) {
     case 8: return smaller(x >> 16, y >> 16) << 16 | smaller(x & 0xFFFF, y & 0xFFFF);
-    case 9: return x + y;
+    case 9: return smaller((x + y) >> 16, SPEED_MAX) << 16 | smaller((x + y) & 0xFFFF, SPEED_MAX);
     default: return larger(x >> 16, y >> 16) << 16 | larger(x & 0xFFFF, y & 0xFFFF);
     }
 }

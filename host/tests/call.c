@@ -1,5 +1,5 @@
-/* The five calls on every number, with buffers too short, exact and too long, on the bench table, on rests and on the order of lists
- * and blocks. C and C++. */
+/* The five calls on every number, with buffers too short, exact and too long, on the bench table, on rests, on the order of lists and
+ * blocks and on the ceiling of shared joins. C and C++. */
 #include "common.h"
 
 /* One component. */
@@ -24,19 +24,24 @@ static struct component reversed(struct component c) {
     return c;
 }
 
-/* Six modules with eight intervals and T 1,000 each, at the greatest speeds; all shared. */
-static struct plan longest(void) {
+/* Six modules with eight intervals and T 1,000 each, all shared. The greatest speed of module 0 is `first` and that of each other
+ * `others`. */
+static struct plan all_shared(unsigned first, unsigned others) {
     struct plan p = two_groups(1, DRIVE_ED1_SHARED);
     for (unsigned i = 0; i < DRIVE_MODULES_MAX; i++) {
+        unsigned greatest = i == 0 ? first : others;
         p.component[i].total = DRIVE_MODULE_TOTAL_MAX;
         p.component[i].count = DRIVE_MODULE_INTERVALS_MAX;
         for (unsigned j = 0; j < DRIVE_MODULE_INTERVALS_MAX; j++) {
-            p.component[i].focal[j].low = p.component[i].focal[j].high = DRIVE_SPEED_MAX - 7 + j;
+            p.component[i].focal[j].low = p.component[i].focal[j].high = greatest - 7 + j;
             p.component[i].focal[j].weight = 125;
         }
     }
     return p;
 }
+
+/* One of the longest sheets: its modules' greatest speeds add to 4,095. */
+static struct plan longest(void) { return all_shared(DRIVE_SPEED_MAX - 5 * 682, 682); }
 
 /* A buffer right behind a page that can not be touched, or right before one. It holds marks, some behind its end too where they fit. */
 struct lent {
@@ -512,7 +517,8 @@ static void test_round_trips(void) {
     finish("plans written and read back, sheets read and written back");
 }
 
-/* One row of a table such as the bench table, by drive_bounds and by drive_set with a demand before it that nothing reaches. */
+/* One row of a table such as the bench table, by drive_bounds and by drive_set with a demand before it that nothing reaches: one above
+ * the greatest speed. */
 static void bench_row(const char *name, struct plan p, uint32_t demand, uint32_t allowance, uint32_t number, const uint64_t *want,
                       const struct drive_interval *intervals) {
     static uint8_t list[DRIVE_LIST_BYTES], answer[DRIVE_ANSWER_BYTES];
@@ -522,17 +528,18 @@ static void bench_row(const char *name, struct plan p, uint32_t demand, uint32_t
     EXPECT(got == number, "%s: number %u, not %u", name, got, number);
     EXPECT(values_are(drive_read_answer(answer), number == 0 ? want : zeros), "%s: the answer at demand %u", name, demand);
     EXPECT(number != 0 || descends(list, want[4]), "%s: the order of the list", name);
+    EXPECT(number != 0 || greatest_high(list, want[4]) <= DRIVE_SPEED_MAX, "%s: a speed above the greatest", name);
     EXPECT(number != 0 || intervals == NULL || list_is(list, intervals, (size_t)want[4]), "%s: the list", name);
 
     uint8_t demands[2 * DRIVE_DEMAND_BYTES], shares[2 * DRIVE_SHARES_BYTES], others[DRIVE_SET_ANSWER_BYTES];
     fill_marks(shares, sizeof shares);
-    drive_put_demand(demands, 0, UINT32_MAX);
+    drive_put_demand(demands, 0, DRIVE_SPEED_MAX + 1);
     drive_put_demand(demands, 1, demand);
     got = drive_set(s.bytes, s.length, demands, sizeof demands, allowance, list, sizeof list, shares, sizeof shares, others,
                     sizeof others);
     EXPECT(got == number, "%s: drive_set: number %u, not %u", name, got, number);
     if (number == 0) {
-        EXPECT(holds_zeros(shares, 0, DRIVE_SHARES_BYTES), "%s: drive_set: the shares at the greatest demand", name);
+        EXPECT(holds_zeros(shares, 0, DRIVE_SHARES_BYTES), "%s: drive_set: the shares above the greatest speed", name);
         EXPECT(values_are(drive_read_shares(others, shares, 1), want), "%s: drive_set: the answer at demand %u", name, demand);
         EXPECT(descends(list, want[4]), "%s: drive_set: the order of the list", name);
         EXPECT(intervals == NULL || list_is(list, intervals, (size_t)want[4]), "%s: drive_set: the list", name);
@@ -579,7 +586,7 @@ static uint64_t speed_at(const struct sheet *s, uint32_t target) {
     memset(answer, 0xEE, sizeof answer);
     uint32_t got = drive_speed(s->bytes, s->length, target, DRIVE_PAIRS_MAX, list, sizeof list, answer, sizeof answer);
     uint64_t speed = drive_read(answer + DRIVE_ANSWER_BYTES, 8);
-    EXPECT(got == 0 && speed < UINT32_MAX, "target %u: number %u, speed %llu", target, got, (unsigned long long)speed);
+    EXPECT(got == 0 && speed <= DRIVE_SPEED_MAX, "target %u: number %u, speed %llu", target, got, (unsigned long long)speed);
 
     got = drive_bounds(s->bytes, s->length, (uint32_t)speed, DRIVE_PAIRS_MAX, bounds_list, sizeof bounds_list, bounds_answer,
                        sizeof bounds_answer);
@@ -624,8 +631,8 @@ static void test_speeds(void) {
     for (unsigned i = 0; i < 6; i++) speed_row("W", w, w_targets[i], w_speeds[i]);
     speed_row("the most pairs without a rest", widest(), 1, 239);
     speed_row("the most pairs without a rest", widest(), DRIVE_TARGET_MAX, 0);
-    speed_row("the most pairs", most_pairs(), 1, 64);
-    speed_row("the most pairs", most_pairs(), 500, 31);
+    speed_row("the most pairs", most_pairs(), 1, 70);
+    speed_row("the most pairs", most_pairs(), 500, 33);
     speed_row("the most pairs", most_pairs(), DRIVE_TARGET_MAX, 0);
     finish("drive_speed: the speeds of W, and those of the sheets with the most pairs");
 
@@ -673,13 +680,13 @@ static void test_rest_lists(void) {
     static const struct drive_interval added[] = {{6, 6, 1}, {5, 5, 1}, {4, 4, 1},    {3, 3, 1},
                                                   {2, 2, 1}, {1, 1, 1}, {0, 4095, 2}, {0, 0, 1}};
     static const uint64_t at_1[][5] = {{9, 8, 9, 0, 9}, {9, 7, 8, 0, 9}, {9, 0, 9, 0, 9}, {9, 6, 8, 0, 8}};
-    static const uint64_t nines[] = {81, 0, 16, 81, 81};
+    static const uint64_t nines[] = {81, 0, 17, 81, 81};
     bench_row("eight and the rest behind them", one(nine(1, 1)), 1, 0, 0, at_1[0], last);
     bench_row("eight and the rest among them", one(nine(0, 1)), 1, 0, 0, at_1[1], eighth);
     bench_row("eight and the rest before them", one(from_0), 1, 0, 0, at_1[2], first);
     bench_row("eight and the rest in one of them", one(any), 1, 0, 0, at_1[3], added);
-    bench_row("nine with nine, allowance 81", two(nine(0, 1), nine(8, 8), DRIVE_ED1_SHARED), 4096, 81, 0, nines, NULL);
-    bench_row("nine with nine, allowance 80", two(nine(0, 1), nine(8, 8), DRIVE_ED1_SHARED), 4096, 80, 13, NULL, NULL);
+    bench_row("nine with nine, allowance 81", two(nine(1, 1), nine(9, 8), DRIVE_ED1_SHARED), 4095, 81, 0, nines, NULL);
+    bench_row("nine with nine, allowance 80", two(nine(1, 1), nine(9, 8), DRIVE_ED1_SHARED), 4095, 80, 13, NULL, NULL);
     finish("rests: 940 of 1,000, lists of nine, a rest that is added to a listed interval");
 }
 
@@ -687,9 +694,9 @@ static void test_rest_lists(void) {
 static void test_rest_joins(void) {
     static const struct component a = {5, 2, {{0, 0, 1}, {2, 3, 3}}}; /* A with a rest of 1 */
     static const struct drive_interval series[] = {{1, 3, 3}, {1, 1, 6}, {0, 4, 1}, {0, 1, 2}, {0, 0, 3}};
-    static const struct drive_interval shared[] = {{3, 7, 3}, {3, 4, 6}, {1, 4099, 1}, {1, 4096, 2}, {1, 4, 1}, {1, 1, 2}};
+    static const struct drive_interval shared[] = {{3, 7, 3}, {3, 4, 6}, {1, 4095, 3}, {1, 4, 1}, {1, 1, 2}};
     static const struct drive_interval spare[] = {{2, 4, 3}, {2, 3, 6}, {1, 4095, 3}, {1, 4, 1}, {1, 1, 2}};
-    static const uint64_t series_at_2[] = {15, 0, 4, 6, 5}, shared_at_3[] = {15, 9, 13, 6, 6}, spare_at_4[] = {15, 0, 7, 6, 5};
+    static const uint64_t series_at_2[] = {15, 0, 4, 6, 5}, shared_at_3[] = {15, 9, 13, 6, 5}, spare_at_4[] = {15, 0, 7, 6, 5};
     bench_row("a rest in series", two(a, B, DRIVE_ED1_SERIES), 2, 6, 0, series_at_2, series);
     bench_row("a rest in a shared join", two(a, B, DRIVE_ED1_SHARED), 3, 6, 0, shared_at_3, shared);
     bench_row("a rest in a spare join", two(a, B, DRIVE_ED1_SPARE), 4, 6, 0, spare_at_4, spare);
@@ -701,8 +708,8 @@ static void test_rest_joins(void) {
     static const struct component hour = {1000, 1, {{5, 9, 1}}};
     static const struct drive_interval hour_list[] = {{5, 9, 1}, {0, 4095, 999}};
     static const struct drive_interval six_hours[] = {
-        {30, 54, 1},                  {25, 4140, 5994},              {20, 8226, 14970015u},           {15, 12312, 19940059980u},
-        {10, 16398, 14940089940015u}, {5, 20484, 5970059940029994u}, {0, 24570, 994014980014994001u},
+        {30, 54, 1},                 {25, 4095, 5994},             {20, 4095, 14970015u},          {15, 4095, 19940059980u},
+        {10, 4095, 14940089940015u}, {5, 4095, 5970059940029994u}, {0, 4095, 994014980014994001u},
     };
     static const uint64_t hour_at_5[] = {1000, 1, 1000, 0, 2}, hour_at_10[] = {1000, 0, 999, 0, 2};
     static const uint64_t six_at_5[] = {1000000000000000000u, 5985019985005999u, 1000000000000000000u, 40, 7};
@@ -862,6 +869,172 @@ static void test_sums_from_front(void) {
     finish("the order: beliefs and speeds from the front of the list");
 }
 
+/* A module that always runs at one speed. */
+static struct component always(unsigned speed) {
+    const struct component c = {1, 1, {{speed, speed, 1}}};
+    return c;
+}
+
+/* Every two speeds that add to 4,094, 4,095 or 4,096, and some others: the sum or 4,095, whichever is smaller. */
+static void test_ceiling_sums(void) {
+    static const unsigned others[][3] = {{4095, 2, 4095}, {4095, 4095, 4095}, {3000, 3000, 4095}, {1500, 1500, 3000}, {0, 0, 0}};
+    static const uint64_t met[] = {1, 1, 1, 1, 1}, missed[] = {1, 0, 0, 1, 1};
+    for (unsigned x = 0; x <= DRIVE_SPEED_MAX; x++) {
+        for (unsigned sum = DRIVE_SPEED_MAX - 1; sum <= DRIVE_SPEED_MAX + 1; sum++) {
+            if (sum < x || sum - x > DRIVE_SPEED_MAX) continue;
+            const unsigned want = sum < DRIVE_SPEED_MAX ? sum : DRIVE_SPEED_MAX;
+            const struct drive_interval list = {want, want, 1};
+            bench_row("a sum", two(always(x), always(sum - x), DRIVE_ED1_SHARED), want, 1, 0, met, &list);
+        }
+    }
+    for (unsigned i = 0; i < sizeof others / sizeof *others; i++) {
+        const struct drive_interval list = {others[i][2], others[i][2], 1};
+        const struct plan p = two(always(others[i][0]), always(others[i][1]), DRIVE_ED1_SHARED);
+        bench_row("another sum", p, others[i][2], 1, 0, met, &list);
+        bench_row("another sum, one above it", p, others[i][2] + 1, 1, 0, missed, &list);
+    }
+    for (unsigned target = 1; target <= DRIVE_TARGET_MAX; target++) {
+        speed_row("4,095 with 1", two(always(4095), always(1), DRIVE_ED1_SHARED), target, 4095);
+        speed_row("2,047 with 2,047", two(always(2047), always(2047), DRIVE_ED1_SHARED), target, 4094);
+    }
+    finish("the ceiling: sums below 4,095, at it and above");
+}
+
+/* Two modules, and the list of their shared join: two highs add to exactly 4,095, one interval is cut at its high, one at both ends. */
+static const struct component cut_x = {4, 2, {{1000, 3500, 1}, {3000, 3500, 3}}}, cut_y = {3, 2, {{500, 595, 1}, {2000, 2500, 2}}};
+static const struct drive_interval cut_list[] = {{4095, 4095, 6}, {3500, 4095, 3}, {3000, 4095, 2}, {1500, 4095, 1}};
+
+/* D1 and D2 of the bench table with a third module of the single speeds 0, 64, 128, `fourth` and 4,095, weight 1 each. */
+static struct plan up_to_ceiling(unsigned fourth) {
+    struct plan p = three(5);
+    p.component[2].focal[3].low = p.component[2].focal[3].high = fourth;
+    p.component[2].focal[4].low = p.component[2].focal[4].high = DRIVE_SPEED_MAX;
+    return p;
+}
+
+static void test_ceiling_lists(void) {
+    static const uint64_t cut_at_3500[] = {12, 9, 12, 4, 4}, cut_at_4095[] = {12, 6, 12, 4, 4}, cut_at_4096[] = {12, 0, 0, 4, 4};
+    const struct plan cut = two(cut_x, cut_y, DRIVE_ED1_SHARED);
+    bench_row("lows and highs, demand 3,500", cut, 3500, 4, 0, cut_at_3500, cut_list);
+    bench_row("lows and highs, demand 4,095", cut, 4095, 4, 0, cut_at_4095, cut_list);
+    bench_row("lows and highs, demand 4,096", cut, 4096, 4, 0, cut_at_4096, cut_list);
+    speed_row("lows and highs", cut, 500, 4095);
+    speed_row("lows and highs", cut, 501, 3500);
+
+    /* Nine sums, of which seven are 4,095 or above; three intervals form six pairs with two others. */
+    static const struct component fast = {6, 3, {{4000, 4000, 1}, {4050, 4050, 2}, {4095, 4095, 3}}};
+    static const struct component more = {4, 3, {{0, 0, 1}, {100, 100, 1}, {200, 200, 2}}};
+    static const struct component last = {5, 2, {{0, 4095, 1}, {4060, 4095, 4}}};
+    static const struct drive_interval short_list[] = {{4095, 4095, 21}, {4050, 4050, 2}, {4000, 4000, 1}};
+    static const struct drive_interval last_list[] = {
+        {4060, 4095, 84}, {4050, 4050, 8}, {4000, 4000, 4}, {0, 4095, 21}, {0, 4050, 2}, {0, 4000, 1},
+    };
+    static const uint64_t short_at_4095[] = {24, 21, 21, 9, 3}, last_at_4050[] = {120, 92, 115, 15, 6};
+    static const uint16_t entry[] = {0, 1, DRIVE_ED1_SHARED, 2, DRIVE_ED1_SERIES};
+    const struct component c[] = {fast, more, last};
+    bench_row("a list that becomes shorter", two(fast, more, DRIVE_ED1_SHARED), 4095, 9, 0, short_at_4095, short_list);
+    bench_row("fewer pairs behind it, allowance 15", make_plan(3, c, entry), 4050, 15, 0, last_at_4050, last_list);
+    bench_row("fewer pairs behind it, allowance 14", make_plan(3, c, entry), 4050, 14, 13, NULL, NULL);
+
+    /* Where one module has its rest, the high is 4,095; 0 with a rest and two rests give the same interval. */
+    static const uint64_t nines[] = {81, 0, 17, 81, 80};
+    bench_row("nine with nine, one interval twice", two(nine(0, 1), nine(8, 8), DRIVE_ED1_SHARED), 4095, 81, 0, nines, NULL);
+
+    /* 257 sums that are 194 different speeds; 319 that are 256; 320 that are 257. */
+    static const uint64_t third_at_4094[] = {320, 128, 128, 384, 194}, third_at_4095[] = {320, 127, 127, 384, 194};
+    static const uint64_t most_at_4095[] = {320, 64, 64, 384, 256};
+    bench_row("257 sums, demand 4,094", up_to_ceiling(4094), 4094, 384, 0, third_at_4094, NULL);
+    bench_row("257 sums, demand 4,095", up_to_ceiling(4094), 4095, 384, 0, third_at_4095, NULL);
+    bench_row("257 sums, allowance 383", up_to_ceiling(4094), 4095, 383, 13, NULL, NULL);
+    bench_row("256 speeds", up_to_ceiling(191), 4095, 384, 0, most_at_4095, NULL);
+    bench_row("257 speeds", up_to_ceiling(192), 4095, 384, 14, NULL, NULL);
+    finish("the ceiling: lows and highs that are cut, intervals that become equal, pair counts, numbers 13 and 14");
+}
+
+/* The drive's list, and the answers at a demand, of a plan that is accepted. */
+static struct drive_answer list_of(const struct plan *p, uint32_t demand, uint8_t *list) {
+    uint8_t answer[DRIVE_ANSWER_BYTES];
+    struct sheet s = make_sheet(p);
+    uint32_t got = drive_bounds(s.bytes, s.length, demand, DRIVE_PAIRS_MAX, list, DRIVE_LIST_BYTES, answer, sizeof answer);
+    EXPECT(got == 0, "number %u", got);
+    return drive_read_answer(answer);
+}
+
+/* A module that always runs at 4,095, in series with the others, changes nothing but the pair count. */
+static void no_limit(const struct plan *p) {
+    static uint8_t list[DRIVE_LIST_BYTES], same_list[DRIVE_LIST_BYTES];
+    static const uint32_t demands[] = {0, 1, 1500, 3500, DRIVE_SPEED_MAX - 1, DRIVE_SPEED_MAX, DRIVE_SPEED_MAX + 1};
+    struct plan q = *p;
+    const unsigned entries = 2 * p->components - 1;
+    q.component[q.components++] = always(DRIVE_SPEED_MAX);
+    q.entry[entries] = (uint16_t)p->components;
+    q.entry[entries + 1] = DRIVE_ED1_SERIES;
+    for (size_t i = 0; i < sizeof demands / sizeof *demands; i++) {
+        struct drive_answer without = list_of(p, demands[i], list), with = list_of(&q, demands[i], same_list);
+        without.pairs += without.intervals;
+        EXPECT(memcmp(&without, &with, sizeof with) == 0, "4,095 in series: other answers at demand %u", demands[i]);
+        EXPECT(memcmp(list, same_list, sizeof list) == 0, "4,095 in series: another list");
+    }
+}
+
+static void test_ceiling_joins(void) {
+    static const struct component z = {2, 2, {{2000, 4095, 1}, {4095, 4095, 1}}};
+    static const struct drive_interval series[] = {
+        {4095, 4095, 6}, {3500, 4095, 3}, {3000, 4095, 2}, {2000, 4095, 11}, {1500, 4095, 2},
+    };
+    static const struct drive_interval shared[] = {{4095, 4095, 23}, {3500, 4095, 1}};
+    static const struct drive_interval spare[] = {{4095, 4095, 18}, {3500, 4095, 3}, {3000, 4095, 2}, {2000, 4095, 1}};
+    static const uint64_t series_at_3500[] = {24, 9, 24, 12, 5}, shared_at_4095[] = {24, 23, 24, 12, 2};
+    static const uint64_t spare_at_4095[] = {24, 18, 24, 12, 4};
+    const struct component c[] = {cut_x, cut_y, z};
+    static const uint16_t entry[][5] = {
+        {0, 1, DRIVE_ED1_SHARED, 2, DRIVE_ED1_SERIES}, {0, 1, DRIVE_ED1_SHARED, 2, DRIVE_ED1_SHARED},
+        {0, 1, DRIVE_ED1_SHARED, 2, DRIVE_ED1_SPARE},  {0, 1, 2, DRIVE_ED1_SHARED, DRIVE_ED1_SHARED},
+        {1, 2, DRIVE_ED1_SHARED, 0, DRIVE_ED1_SHARED}, {0, 2, DRIVE_ED1_SHARED, 1, DRIVE_ED1_SHARED},
+    };
+    bench_row("series behind it", make_plan(3, c, entry[0]), 3500, 12, 0, series_at_3500, series);
+    bench_row("shared behind it", make_plan(3, c, entry[1]), 4095, 12, 0, shared_at_4095, shared);
+    bench_row("spare behind it", make_plan(3, c, entry[2]), 4095, 12, 0, spare_at_4095, spare);
+    for (unsigned i = 3; i < 6; i++) {
+        static uint8_t list[DRIVE_LIST_BYTES];
+        const struct plan p = make_plan(3, c, entry[i]);
+        EXPECT(list_of(&p, 0, list).intervals == 2 && list_is(list, shared, 2), "three modules that drive together, order %u", i);
+    }
+    const struct plan plans[] = {
+        two(cut_x, cut_y, DRIVE_ED1_SHARED), two(nine(0, 1), nine(8, 8), DRIVE_ED1_SHARED), up_to_ceiling(4094),
+        make_plan(3, c, entry[2]), one(part), two(W0, W1, DRIVE_ED1_SPARE), two(always(4095), always(4095), DRIVE_ED1_SHARED),
+    };
+    for (size_t i = 0; i < sizeof plans / sizeof *plans; i++) no_limit(&plans[i]);
+    finish("the ceiling: joins of each kind behind it, in any order; 4,095 in series limits nothing");
+}
+
+/* Plans that reach 4,095: demand 4,096 is met by nothing, and no speed is above 4,095. */
+static void test_ceiling_ends(void) {
+    static uint8_t list[DRIVE_LIST_BYTES];
+    static const uint64_t fastest_at_4095[] = {1000000000000000000u, 1000000000000000000u, 1000000000000000000u, 145, 1};
+    static const struct drive_interval fastest_list[] = {{4095, 4095, 1000000000000000000u}};
+    const struct plan fastest = all_shared(DRIVE_SPEED_MAX, DRIVE_SPEED_MAX);
+    const struct plan plans[] = {
+        fastest, longest(), most_pairs(), two(cut_x, cut_y, DRIVE_ED1_SHARED), two(nine(0, 1), nine(8, 8), DRIVE_ED1_SHARED),
+        up_to_ceiling(4094), one(always(4095)), two(part, part_added, DRIVE_ED1_SHARED),
+        six(1, 1, DRIVE_ED1_SHARED, DRIVE_ED1_SHARED),
+    };
+    static const uint32_t above[] = {DRIVE_SPEED_MAX + 1, 2 * DRIVE_SPEED_MAX, 6 * DRIVE_SPEED_MAX, 65535, 65536, UINT32_MAX};
+    bench_row("the greatest speeds", fastest, 4095, 145, 0, fastest_at_4095, fastest_list);
+    bench_row("the greatest speeds, one pair fewer", fastest, 4095, 144, 13, NULL, NULL);
+    for (size_t i = 0; i < sizeof plans / sizeof *plans; i++) {
+        struct sheet s = make_sheet(&plans[i]);
+        for (unsigned j = 0; j < sizeof above / sizeof *above; j++) {
+            struct drive_answer a = list_of(&plans[i], above[j], list);
+            EXPECT(a.belief == 0 && a.plausibility == 0, "plan %zu: a share at demand %u", i, above[j]);
+        }
+        struct drive_answer a = list_of(&plans[i], DRIVE_SPEED_MAX, list);
+        EXPECT(a.plausibility > 0 && greatest_high(list, a.intervals) == DRIVE_SPEED_MAX, "plan %zu: 4,095 is not reached", i);
+        for (uint32_t target = 1; target <= DRIVE_TARGET_MAX; target += 111) speed_at(&s, target);
+    }
+    finish("the ceiling: no speed above 4,095, and demands above it that nothing meets");
+}
+
 /* drive_set against drive_bounds at each demand: the same answers, the same list. Of two demands the greater never has more. */
 static void set_at(const struct sheet *s, const uint32_t *demands, size_t count) {
     static uint8_t list[DRIVE_LIST_BYTES], bounds_list[DRIVE_LIST_BYTES], bounds_answer[DRIVE_ANSWER_BYTES];
@@ -936,11 +1109,11 @@ static void test_sets(void) {
 static void test_ends(void) {
     static uint8_t list[DRIVE_LIST_BYTES], answer[DRIVE_ANSWER_BYTES];
     enum { WIDEST = 2 * (64 + 512) + 256 * 256 };
-    static const uint64_t widest_answer[] = {262144, 1, 1, WIDEST, 256}, most_answer[] = {531441, 6552, 164025, DRIVE_PAIRS_MAX, 256};
+    static const uint64_t widest_answer[] = {262144, 1, 1, WIDEST, 256}, most_answer[] = {531441, 24024, 177147, DRIVE_PAIRS_MAX, 256};
     struct plan p = longest();
     struct sheet s = make_sheet(&p);
     struct drive_answer a;
-    uint32_t got = drive_bounds(s.bytes, s.length, 24570, UINT32_MAX, list, sizeof list, answer, sizeof answer);
+    uint32_t got = drive_bounds(s.bytes, s.length, DRIVE_SPEED_MAX, UINT32_MAX, list, sizeof list, answer, sizeof answer);
     a = drive_read_answer(answer);
     EXPECT(s.length == DRIVE_SHEET_BYTES_MAX, "the longest sheet has %zu bytes", s.length);
     EXPECT(got == 0 && a.total == 1000000000000000000u, "number %u, total %llu", got, (unsigned long long)a.total);
@@ -984,6 +1157,10 @@ int main(void) {
     test_leaf_order();
     test_block_order();
     test_sums_from_front();
+    test_ceiling_sums();
+    test_ceiling_lists();
+    test_ceiling_joins();
+    test_ceiling_ends();
     test_speeds();
     test_sets();
     test_ends();

@@ -13,8 +13,10 @@ from math import prod
 LIST_BYTES, ANSWER_BYTES, SET_BYTES, SPEED_BYTES, PAIRS_MAX = 16384, 40, 24, 48, 67156
 PLAN_BYTES, LENGTH_BYTES, SHEET_BYTES = 336, 8, 224
 SERIES, SHARED, SPARE = 8, 9, 10
-ANY_SPEED = 0, 4095
-JOIN = {SERIES: min, SHARED: lambda x, y: x + y, SPARE: max}
+FASTEST = 4095
+ANY_SPEED = 0, FASTEST
+JOIN = {SERIES: min, SHARED: lambda x, y: min(x + y, FASTEST), SPARE: max}
+WITHOUT_CEILING = {**JOIN, SHARED: lambda x, y: x + y}
 
 library = ctypes.CDLL(sys.argv[1])
 drive_bounds, drive_set, drive_speed = library.drive_bounds, library.drive_set, library.drive_speed
@@ -151,13 +153,13 @@ def leaf(component):
     return [(low, high, weight) for (low, high), weight in weights.items() if weight > 0]
 
 
-def joined(entries, speeds):
+def joined(entries, speeds, join=JOIN):
     """The structure on one speed for each component."""
     stack = []
     for e in entries:
-        if e in JOIN:
+        if e in join:
             y, x = stack.pop(), stack.pop()
-            stack.append(JOIN[e](x, y))
+            stack.append(join[e](x, y))
         else:
             stack.append(speeds[e])
     return stack[0]
@@ -180,20 +182,24 @@ def late_refusal(components, entries, allowance):
     return 0, pairs
 
 
+def over_choices(components, entries, join=JOIN):
+    """The records of the drive's list, the fastest first, from the sum over all choices."""
+    outcomes = Counter()
+    for choice in itertools.product(*map(leaf, components)):
+        lows, highs, weights = zip(*choice)
+        outcomes[joined(entries, lows, join), joined(entries, highs, join)] += prod(weights)
+    return sorted(((low, high, weight) for (low, high), weight in outcomes.items()), reverse=True)
+
+
 def outcomes_of(sheet, allowance):
-    """The number, and, where that is 0, total, pair count and the list, the fastest first, from the sum over all choices."""
+    """The number, and, where that is 0, total, pair count and the list."""
     number, plan = read_sheet(sheet)
     if number == 0:
         components, entries = plan
         number, pairs = late_refusal(components, entries, allowance)
     if number != 0:
         return number, 0, 0, []
-    outcomes = Counter()
-    for choice in itertools.product(*map(leaf, components)):
-        lows, highs, weights = zip(*choice)
-        outcomes[joined(entries, lows), joined(entries, highs)] += prod(weights)
-    records = sorted(((low, high, weight) for (low, high), weight in outcomes.items()), reverse=True)
-    return 0, prod(total for total, _ in components), pairs, records
+    return 0, prod(total for total, _ in components), pairs, over_choices(components, entries)
 
 
 def bounds_of(outcomes, demand):
@@ -262,6 +268,19 @@ def compare(function, sheet, asked, allowance, outcomes, wanted):
     assert got[0] == number, f"{name}: number {got[0]}, not {number}, on {sheet.hex()}"
     assert got[1:] == (store, answer), f"{name}: other bytes on {sheet.hex()}"
     return number
+
+
+def ceiling_met(sheet, outcomes, demand):
+    """What the ceiling of shared joins does to the list of an accepted sheet. It leaves the shares at demands up to 4,095."""
+    sums = over_choices(*read_sheet(sheet)[1], WITHOUT_CEILING)
+    shares = bounds_of(outcomes, demand)[1][1:3]
+    assert shares == ([0, 0] if demand > FASTEST else bounds_of((*outcomes[:3], sums), demand)[1][1:3]), f"demand {demand}"
+    met = {
+        "a low cut": any(low > FASTEST for low, _, _ in sums),
+        "only a high cut": any(low <= FASTEST < high for low, high, _ in sums),
+        "a shorter list": len(outcomes[3]) < len(sums),
+    }
+    return [what for what in met if met[what]]
 
 
 def round_trip(sheet):
@@ -372,7 +391,20 @@ def main():
     round_trip(part)
     print("ok Python: 940 of 1,000 units, the rest in the list and not in the plan")
 
-    r, met, rests, sheets = random.Random(20), Counter(), Counter(), 8000
+    pair = make_sheet([(1, [(4095, 4095, 1)]), (1, [(1, 1, 1)])], [0, 1, SHARED])
+    outcomes = outcomes_of(pair, 1)
+    assert outcomes == (0, 1, 1, [(4095, 4095, 1)])
+    assert list_bytes(0, outcomes[3]) == bytes.fromhex("0FFF 0FFF 0000000000000001").ljust(LIST_BYTES, b"\0")
+    for demand, share in (4095, 1), (4096, 0):
+        assert bounds_of(outcomes, demand)[1] == [1, share, share, 1, 1]
+        compare(drive_bounds, pair, demand, 1, outcomes, bounds_of(outcomes, demand))
+        compare_set(pair, [0, demand], 1, outcomes, 32)
+    for target in 1, 1000:
+        assert speed_of(outcomes, target)[1][5] == 4095
+        compare(drive_speed, pair, target, 1, outcomes, speed_of(outcomes, target))
+    print("ok Python: 4,095 with 1 in a shared join gives 4,095")
+
+    r, met, rests, cut, sheets = random.Random(20), Counter(), Counter(), Counter(), 8000
     for _ in range(sheets):
         sheet, allowance = random_sheet(r), r.choice([PAIRS_MAX, r.randint(0, 60)])
         round_trip(sheet)
@@ -383,13 +415,17 @@ def main():
         demands = random_demands(r, outcomes)
         room = max(0, 16 * len(demands) + r.choice([0, 0, 1, 16, -1]))
         met["set", compare_set(sheet, demands, allowance, outcomes, room)] += 1
-        for component in read_sheet(sheet)[1][0] if outcomes[0] == 0 else []:
+        if outcomes[0] != 0:
+            continue
+        cut.update(ceiling_met(sheet, outcomes, demand))
+        for component in read_sheet(sheet)[1][0]:
             if rest_of(component) > 0:
                 rests[len(component[1]), len(leaf(component))] += 1
     wanted = {*itertools.product(["bounds", "set", "speed"], {*range(15)} - {12}), ("speed", 16), ("set", 17), ("set", 18)}
     missing = wanted - set(met)
     assert not missing, f"numbers never met: {missing}"
     assert min(rests[8, 8], rests[8, 9]) >= 10, f"too few rests beside eight intervals: {rests}"
+    assert len(cut) == 3 and min(cut.values()) >= 100, f"the ceiling of shared joins is met too seldom: {cut}"
     print(f"ok Python: {sheets} random sheets against the sum over all choices, read and written back")
 
 

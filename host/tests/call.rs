@@ -34,6 +34,14 @@ const W: [u8; 30] = [
     0x01, 0x80,
 ];
 
+/// Two modules that drive together, T 1 each: 4,095 and 1.
+const SHARED: [u8; 18] = [
+    0x12, 0x12, //
+    0x10, 0x01, 0xFF, 0xFF, 0xFF, 0x00, 0x40, //
+    0x10, 0x01, 0x00, 0x10, 0x01, 0x00, 0x40, //
+    0x01, 0x90,
+];
+
 /// One module: T 2, from 5 to 8 and from 5 to 9, weight 1 each.
 const ONE: [u8; 14] = [0x11, 0x0E, 0x20, 0x02, 0x00, 0x50, 0x08, 0x00, 0x40, 0x14, 0x02, 0x40, 0x10, 0x00];
 
@@ -244,4 +252,15 @@ fn main() {
     assert_eq!(read(&other, &mut read_back), 8);
     assert_eq!(write(&plan, &mut sheet, &mut length), 8);
     println!("ok Rust: a rest, and weights above the total");
+
+    for (demand, share) in [(4095, 1), (4096, 0)] {
+        assert_eq!(call(&SHARED, demand, 1, &mut list, &mut answer), 0);
+        assert_eq!(answers(&answer[..ANSWER_BYTES]), [1, share, share, 1, 1]);
+        assert_eq!(records(&list[..24]), [(4095, 4095, 1), (0, 0, 0)]);
+    }
+    assert_eq!(set(&SHARED, &[4096, 4095], 0, 1, &mut list, &mut shares, &mut answer), 0);
+    assert_eq!(answers(&shares[..32]), [0, 0, 1, 1]);
+    assert_eq!(speed(&SHARED, 1000, 1, &mut list, &mut answer), 0);
+    assert_eq!(answers(&answer), [1, 1, 1, 1, 1, 4095]);
+    println!("ok Rust: 4,095 with 1 in a shared join gives 4,095");
 }

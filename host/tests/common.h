@@ -189,19 +189,21 @@ static inline struct plan widest(void) {
 }
 
 /* The most pairs that a sheet can form: both groups have 81 and 729 pairs for their 256 intervals, and the last join 65,536. That has
- * 256 again: the second group is never slower than the first, but where all its modules are in their rests. */
+ * 256 again: the second group is never slower than the first, but where all its modules are in their rests, and all its highs are the
+ * greatest speed. */
 static inline struct plan most_pairs(void) {
     static const uint16_t entry[DRIVE_ENTRIES_MAX] = {
         0, 1, DRIVE_ED1_SHARED, 2, DRIVE_ED1_SERIES, 3, 4, DRIVE_ED1_SHARED, 5, DRIVE_ED1_SHARED, DRIVE_ED1_SERIES,
     };
     struct component c[DRIVE_MODULES_MAX];
-    c[0] = nine(0, 1);
-    c[1] = nine(8, 8);
-    c[2] = nine(50, 2);
-    for (unsigned j = 0; j < 8; j++) c[2].focal[j].high = 1000;
-    c[3] = nine(1400, 1);
-    c[4] = nine(1408, 8);
-    c[5] = nine(1380, 9);
+    c[0] = nine(1, 1);
+    c[1] = nine(9, 8);
+    c[2] = nine(49, 3);
+    c[3] = nine(1000, 1);
+    c[4] = nine(1008, 8);
+    c[5] = nine(1004, 10);
+    for (unsigned i = 2; i < DRIVE_MODULES_MAX; i++)
+        for (unsigned j = 0; j < 8; j++) c[i].focal[j].high = i == 2 ? 1000 : DRIVE_SPEED_MAX;
     return make_plan(DRIVE_MODULES_MAX, c, entry);
 }
 

@@ -226,6 +226,49 @@ static void print_rests(const struct rests *r) {
     EXPECT(r->all >= 1000 && r->added >= 100 && r->nine >= 100, "too few rests");
 }
 
+/* The structure on one speed for each module, if shared joins just added. */
+static uint32_t just_added(const uint8_t *plan, const uint32_t *speed) {
+    uint32_t stack[DRIVE_MODULES_MAX] = {0}, depth = 0;
+    for (unsigned i = 0; i + 1 < 2 * drive_plan_modules(plan); i++) {
+        uint32_t e = drive_plan_read_entry(plan, i);
+        if (e < DRIVE_MODULES_MAX) {
+            stack[depth++] = speed[e];
+        } else {
+            uint32_t y = stack[--depth], x = stack[depth - 1];
+            stack[depth - 1] = e == DRIVE_ED1_SHARED ? x + y : (e == DRIVE_ED1_SERIES) == (x < y) ? x : y;
+        }
+    }
+    return stack[0];
+}
+
+/* The accepted sheets on which shared joins cut the drive's greatest low, and those on which they cut only its greatest high. */
+struct cuts {
+    unsigned lows, highs;
+};
+
+static void count_cuts(struct cuts *c, const uint8_t *sheet, size_t length) {
+    uint8_t plan[DRIVE_PLAN_BYTES];
+    uint32_t low[DRIVE_MODULES_MAX] = {0}, high[DRIVE_MODULES_MAX] = {0};
+    if (drive_read_sheet(sheet, length, plan, sizeof plan) != 0) return;
+    for (unsigned m = 0; m < drive_plan_modules(plan); m++) {
+        if (drive_plan_rest(plan, m) > 0) high[m] = DRIVE_SPEED_MAX;
+        for (unsigned i = 0; i < drive_plan_intervals(plan, m); i++) {
+            struct drive_interval t = drive_plan_read_interval(plan, m, i);
+            if (t.low > low[m]) low[m] = t.low;
+            if (t.high > high[m]) high[m] = t.high;
+        }
+    }
+    if (just_added(plan, low) > DRIVE_SPEED_MAX)
+        c->lows++;
+    else if (just_added(plan, high) > DRIVE_SPEED_MAX)
+        c->highs++;
+}
+
+static void print_cuts(const struct cuts *c) {
+    printf("   sheets met with sums above %d: %u of lows, %u only of highs\n", DRIVE_SPEED_MAX, c->lows, c->highs);
+    EXPECT(c->lows >= 500 && c->highs >= 500, "too few sums above the greatest speed");
+}
+
 /* A target: half of them at the share that an answer has or one above, some out of range. */
 static uint32_t random_target(struct drive_answer a) {
     static const uint32_t outside[] = {0, 1001, 1024 + 500, 65536 + 500, UINT32_MAX};
@@ -332,6 +375,7 @@ int main(int argc, char **argv) {
     };
     const struct lengths enough = {DRIVE_LIST_BYTES, 0, DRIVE_ANSWER_BYTES};
     struct rests rests = {0, 0, 0};
+    struct cuts cuts = {0, 0};
     unsigned programs = 0;
     if (argc != 3) {
         fprintf(stderr, "usage: compare BOUNDS FILE\n");
@@ -359,7 +403,10 @@ int main(int argc, char **argv) {
         if (random_below(2) == 0) allowance = a.pairs > 0 ? (uint32_t)a.pairs - random_below(2) : 0;
         int exact = random_below(8) != 0;
         run_both(&bounds, exact, sheet, s.length, demand, allowance);
-        if (bounds.drive.number == 0) count_rests(&rests, sheet, s.length);
+        if (bounds.drive.number == 0) {
+            count_rests(&rests, sheet, s.length);
+            count_cuts(&cuts, sheet, s.length);
+        }
         run_both(&set, exact, sheet, s.length, demands, allowance);
         run_both(&speed, exact, sheet, s.length, target, allowance);
         if (exact && i % PROGRAM_EVERY < 2) {
@@ -372,6 +419,7 @@ int main(int argc, char **argv) {
     print_met(&set);
     print_met(&speed);
     print_rests(&rests);
+    print_cuts(&cuts);
     finish("the calls, plain C and bounds agree on random sheets");
     test_short_input(argv[1], argv[2]);
     return failures != 0;

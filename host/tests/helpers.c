@@ -203,11 +203,11 @@ static void test_speed_answer(struct fence pages) {
     uint8_t *answer = up_to_end(pages, DRIVE_SPEED_ANSWER_BYTES);
     struct drive_speed_answer a;
     for (unsigned i = 0; i < DRIVE_SPEED_ANSWER_BYTES; i++) answer[i] = (uint8_t)(i < 40 ? 10 * (i / 8) + i % 8 + 1 : 0);
-    answer[46] = 0x5F, answer[47] = 0xFA;
+    answer[46] = 0x0F, answer[47] = 0xFE;
     a = drive_read_speed_answer(answer);
     EXPECT(a.bounds.total == 0x0102030405060708u && a.bounds.belief == 0x0B0C0D0E0F101112u, "total, belief");
     EXPECT(a.bounds.plausibility == 0x15161718191A1B1Cu && a.bounds.pairs == 0x1F20212223242526u, "plausibility, pairs");
-    EXPECT(a.bounds.intervals == 0x292A2B2C2D2E2F30u && a.speed == 24570, "intervals, speed");
+    EXPECT(a.bounds.intervals == 0x292A2B2C2D2E2F30u && a.speed == 4094, "intervals, speed");
     finish("the answer of drive_speed as values");
 }
 
