@@ -2,6 +2,8 @@
 // and for a set of demands: plans are written as sheets, and the answer of each call and its list, record by record, are compared with
 // the table's. Prints a line for each row, and how many rows disagree. What is printed is open in the contracts of the functions that
 // print, and so is the count of rows that they hand on; every other function says what it answers.
+#![tactic(auto)]
+
 ghost use Rattle.std.specs.Prelude.{◌≡◌, ◌+◌, ◌*◌, ◌<◌, ◌≤◌, length, take};
 ghost use Rattle.theory.specs.Limits.{most_intervals, store_bytes};
 ghost use Rattle.plan.specs.Plan.{series_code, shared_code};
@@ -55,7 +57,7 @@ const ONES: u64 = 72340172838076673;
 const UNCHANGED: [u64; SHARES_HELD] = [ONES; SHARES_HELD];
 
 // A sheet: the first `length` bytes.
-#[derive(Drop)]
+#[derive(Clone, Copy)]
 struct Sheet {
     bytes: [u8; LONGEST],
     length: usize,

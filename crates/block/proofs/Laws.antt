@@ -13,7 +13,7 @@ use Rattle.reader.specs.Fields.{three_at}
 use Rattle.reader.specs.declared.Triple.{Triple}
 use Rattle.theory.specs.Limits.{most_held}
 use Rattle.theory.specs.Focal.{Focal, focal_at}
-use Rattle.block.specs.Block.{count_bits, zero_bits_are_zero, place_of, size_of, padding_of, count_in, cut_short, bad_zero_bits, filled_with, component_in, no_block, block_in}
+use Rattle.block.specs.Block.{count_bits, zero_bits, place_of, size_of, padding_of, count_in, cut_short, bad_zero_bits, filled_with, component_in, no_block, block_in}
 use Rattle.block.specs.declared.Block.{Block}
 use Rattle.block.proofs.Rows.{row_ext, row_used}
 
@@ -52,13 +52,13 @@ is_cut s h = go (cut_short s) refl
     go false e = absurd (h (uncut s e))
 
 -- Where no bit named zero is one, the two bits behind k and the padding are zero.
-pub zero_bits_are_zero : (s : List ℕ) → bad_zero_bits s ≡ false → (field_at s count_bits zero_bits_are_zero ≡ 0) × (field_at s (place_of (count_in s)) (padding_of (count_in s)) ≡ 0)
+pub zero_bits_are_zero : (s : List ℕ) → bad_zero_bits s ≡ false → (field_at s count_bits zero_bits ≡ 0) × (field_at s (place_of (count_in s)) (padding_of (count_in s)) ≡ 0)
 unfolding bad_zero_bits
 zero_bits_are_zero s e =
-    let a = neither (ltb 0 (field_at s count_bits zero_bits_are_zero)) (ltb 0 (field_at s (place_of (count_in s)) (padding_of (count_in s)))) e in
+    let a = neither (ltb 0 (field_at s count_bits zero_bits)) (ltb 0 (field_at s (place_of (count_in s)) (padding_of (count_in s)))) e in
     (omega (arith, ltb-false), omega (arith, ltb-false))
 
-pub no_bad_bits : (s : List ℕ) → field_at s count_bits zero_bits_are_zero ≡ 0 → field_at s (place_of (count_in s)) (padding_of (count_in s)) ≡ 0 → bad_zero_bits s ≡ false
+pub no_bad_bits : (s : List ℕ) → field_at s count_bits zero_bits ≡ 0 → field_at s (place_of (count_in s)) (padding_of (count_in s)) ≡ 0 → bad_zero_bits s ≡ false
 unfolding bad_zero_bits
 no_bad_bits s a b = simp (a, b)
 

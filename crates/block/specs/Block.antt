@@ -12,8 +12,8 @@ use Rattle.block.specs.declared.Block.{Block}
 abbrev pub count_bits : ℕ
 count_bits = 4
 
-abbrev pub zero_bits_are_zero : ℕ
-zero_bits_are_zero = 2
+abbrev pub zero_bits : ℕ
+zero_bits = 2
 
 abbrev pub total_bits : ℕ
 total_bits = 10
@@ -27,7 +27,7 @@ weight_bits = 10
 
 -- The bits before the intervals, and those of each interval.
 abbrev pub head_bits : ℕ
-head_bits = count_bits + zero_bits_are_zero + total_bits
+head_bits = count_bits + zero_bits + total_bits
 
 abbrev pub interval_bits : ℕ
 interval_bits = speed_bits + speed_bits + weight_bits
@@ -49,7 +49,7 @@ abbrev pub count_in : List ℕ → ℕ
 count_in s = field_at s 0 count_bits
 
 abbrev pub total_in : List ℕ → ℕ
-total_in s = field_at s (count_bits + zero_bits_are_zero) total_bits
+total_in s = field_at s (count_bits + zero_bits) total_bits
 
 abbrev pub interval_in : List ℕ → ℕ → Focal
 interval_in s i =
@@ -65,7 +65,7 @@ cut_short s = ltb (count_in s) 1 || ltb most_held (count_in s) || ltb (length s)
 
 -- Number 5 of a block: a bit named zero is one.
 unfoldable pub bad_zero_bits : List ℕ → Bool
-bad_zero_bits s = ltb 0 (field_at s count_bits zero_bits_are_zero) || ltb 0 (field_at s (place_of (count_in s)) (padding_of (count_in s)))
+bad_zero_bits s = ltb 0 (field_at s count_bits zero_bits) || ltb 0 (field_at s (place_of (count_in s)) (padding_of (count_in s)))
 
 -- A component whose first k places are filled with intervals; the unused places are zero.
 abbrev pub filled_with : (ℕ → Focal) → ℕ → ℕ → ℕ → Component
@@ -112,6 +112,6 @@ intervals_of c (suc n) = intervals_of c n ++ interval_of c n
 unfoldable pub fields_of : Component → List Field
 fields_of c =
     bits count_bits c.count
-    ∷ bits zero_bits_are_zero 0
+    ∷ bits zero_bits 0
     ∷ bits total_bits c.total
     ∷ (intervals_of c c.count ++ (bits (padding_of c.count) 0 ∷ []))

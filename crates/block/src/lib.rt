@@ -1,4 +1,6 @@
 // The block of one component, read and written.
+#![tactic(auto)]
+
 ghost use Rattle.std.specs.Prelude.{◌≡◌, ◌||◌, ◌≤◌, ◌*◌, ltb, length};
 ghost use Rattle.field.specs.Fields.{WindowInside, put_all};
 ghost use Rattle.reader.specs.Fields.{three_at};
@@ -28,7 +30,7 @@ const INTERVAL_BITS: usize = SPEED_BITS + SPEED_BITS + WEIGHT_BITS;
 
 // What stands at the front of a part of a sheet: whether the block is cut short (number 4), whether a bit of it that is named
 // zero is one (number 5), its bytes, and its component.
-#[derive(Drop)]
+#[derive(Clone, Copy)]
 pub struct Block {
     pub cut: bool,
     pub nonzero: bool,

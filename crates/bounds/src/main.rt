@@ -1,5 +1,7 @@
 // The program: reads a demand, an allowance and a sheet from standard input, and prints the answer and the drive's list. What is read
 // and printed, and whether it could be, is open in the contracts of the functions that read and print: no contract can speak of it.
+#![tactic(auto)]
+
 ghost use Rattle.std.specs.Prelude.{◌≡◌, ◌+◌, ◌*◌, ◌≤◌, length};
 ghost use Rattle.field.specs.Bits.{field_at};
 

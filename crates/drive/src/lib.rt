@@ -1,5 +1,7 @@
 // What makers link: the calls, the writer and the reader on numbers and byte slices, and nothing else. The header host/drive.h is the
 // manual.
+#![tactic(auto)]
+
 ghost use Rattle.std.specs.Prelude.{◌≡◌, ◌++◌, ◌≤◌, length, drop};
 ghost use Rattle.drive.specs.Call.{answer_bytes, encode_answer, number_returned, list_after, answer_after};
 ghost use Rattle.drive.specs.Speed.{speed_answer_bytes, encode_speed_answer, speed_number, speed_list_after, speed_answer_after};

@@ -1,4 +1,6 @@
 // The calls on a sheet: the tests and the run, which all calls share, and what each asks of the list.
+#![tactic(auto)]
+
 ghost use Rattle.std.specs.Prelude.{◌≡◌, false, length};
 ghost use Rattle.theory.specs.Masses.{total};
 ghost use Rattle.plan.specs.Plan.{components_of};
@@ -15,7 +17,7 @@ use reading::Reading;
 
 // What an ordinary call answers: the number of the refusal and zeros, or 0, the total U, the two shares of it, the pairs formed and the length
 // of the drive's list.
-#[derive(Drop)]
+#[derive(Clone, Copy)]
 pub struct Answer {
     pub number: u8,
     pub total: u64,
@@ -26,7 +28,7 @@ pub struct Answer {
 }
 
 // What a call for a speed answers: the speed, and the answer of an ordinary call with that speed as its demand.
-#[derive(Drop)]
+#[derive(Clone, Copy)]
 pub struct SpeedAnswer {
     pub answer: Answer,
     pub speed: u64,
@@ -34,7 +36,7 @@ pub struct SpeedAnswer {
 
 // What tests and run answer, before the list is asked, and what a call for a set of demands answers beside the shares: the number of the
 // refusal and zeros, or 0, the total U, the pairs formed and the length of the drive's list.
-#[derive(Drop)]
+#[derive(Clone, Copy)]
 pub struct SheetRun {
     pub number: u8,
     pub total: u64,

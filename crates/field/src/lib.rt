@@ -1,4 +1,6 @@
 // Fields of bits in a slice of bytes, most significant bit first. 8 is the width of a byte; powers of two come from crate powers.
+#![tactic(auto)]
+
 ghost use Rattle.std.specs.Prelude.{◌≡◌, ◌+◌, ◌*◌, ◌%◌, ◌^◌, ◌≤◌, ◌<◌, [], ◌∷◌, length};
 ghost use Rattle.field.specs.Bits.{field_at, window_at, with_bit, set_bit, put_at};
 ghost use Rattle.field.specs.Fields.{FieldInside, WindowInside, bits, put_all};

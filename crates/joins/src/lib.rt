@@ -1,5 +1,7 @@
 // Lists in a store: a component's list, and the join of two lists, each put into the store's free rest.
 
+#![tactic(auto)]
+
 ghost use Rattle.std.specs.Prelude.{◌≡◌, [], ◌+◌, ◌-◌, ◌*◌, ◌^◌, ◌≤◌, ◌<◌, length};
 ghost use Rattle.theory.specs.Masses.{masses};
 ghost use Rattle.theory.specs.Focal.{focal, listed, weights};
@@ -21,21 +23,21 @@ const SHORT: usize = 16;
 const SHORT_BYTES: usize = RECORD_BYTES * SHORT;
 
 // What putting a component's listed intervals answers: the list's length, and the rest.
-#[derive(Drop)]
+#[derive(Clone, Copy)]
 struct Listing {
     count: usize,
     rest: u64,
 }
 
 // What a row of pairs answers: the list's length, and where the first pair went.
-#[derive(Drop)]
+#[derive(Clone, Copy)]
 struct Row {
     count: usize,
     first: usize,
 }
 
 // What a join answers: its list's length, or that its list has more than 256 different intervals.
-#[derive(Drop)]
+#[derive(Clone, Copy)]
 pub enum Joined {
     Made(usize),
     Full,

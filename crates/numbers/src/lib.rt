@@ -1,4 +1,6 @@
 // Numbers in bytes, each most significant byte first.
+#![tactic(auto)]
+
 ghost use Rattle.std.specs.Prelude.{◌≡◌, ◌++◌, ◌+◌, ◌≤◌, ◌<◌, length, take, drop};
 ghost use Rattle.numbers.specs.Numbers.{big_endian, number_at};
 

@@ -1,4 +1,6 @@
 // A plan: the same facts as a sheet, as values; and the numbered rules that are asked of it.
+#![tactic(auto)]
+
 ghost use Rattle.std.specs.Prelude.{◌≡◌, cond, ◌||◌, ◌≤◌, ◌<◌, [], ◌∷◌, ◌++◌, ltb};
 ghost use Rattle.theory.specs.Sums.{count_of};
 ghost use Rattle.theory.specs.Focal.{focal};
@@ -13,7 +15,7 @@ use theory::{Component, Entry, Join};
 
 // The components of a drive and its structure: the first `count` components and the first 2 `count` - 1 entries are in use.
 // An entry is the sheet's code.
-#[derive(Drop)]
+#[derive(Clone, Copy)]
 pub struct Plan {
     pub components: [Component; theory::MOST_COMPONENTS],
     pub count: usize,
@@ -163,7 +165,7 @@ fn bad_sum(c: Component) -> bool
 }
 
 // Which of the rules 6, 7 and 8 are broken.
-#[derive(Drop)]
+#[derive(Clone, Copy)]
 pub struct Flaws {
     pub six: bool,
     pub seven: bool,

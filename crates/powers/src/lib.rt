@@ -1,5 +1,7 @@
 // Powers of two for the widths 0 to 32, as a data sheet prints them: the number, then its width. That entry k is 2 ^ k is the contract of
 // `pow2`, which reads it.
+#![tactic(auto)]
+
 ghost use Rattle.std.specs.Prelude.{◌≡◌, ◌^◌, ◌≤◌};
 
 const POWERS: [u64; 33] = [

@@ -1,5 +1,7 @@
 // What is asked of a list of records: its shares at a demand and at each of a set of demands, and the speed for a target; and the tests of a
 // target and of a set, 16, 17 and 18.
+#![tactic(auto)]
+
 ghost use Rattle.std.specs.Prelude.{◌≡◌, cond, ◌++◌, ◌+◌, ◌*◌, ◌≤◌, leb, length, take, drop};
 ghost use Rattle.theory.specs.Limits.{thousandths};
 ghost use Rattle.theory.specs.Speed.{meets, speed_for};
@@ -15,7 +17,7 @@ use theory::THOUSANDTHS;
 pub const SHARES_BYTES: usize = 16;
 
 // Belief and plausibility of a list at a demand, over the sum of its weights.
-#[derive(Drop)]
+#[derive(Clone, Copy)]
 pub struct Shares {
     pub belief: u64,
     pub plausibility: u64,

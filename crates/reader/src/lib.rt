@@ -1,17 +1,19 @@
 // A reader that refers to a sheet and knows its next bit, with thin functions over it, and three above them with plain parameters.
+#![tactic(auto)]
+
 ghost use Rattle.std.specs.Prelude.{◌≡◌, ◌+◌, ◌<◌, ◌^◌};
 ghost use Rattle.field.specs.Bits.{field_at, window_at};
 ghost use Rattle.field.specs.Fields.{FieldInside, WindowInside};
 ghost use Rattle.reader.specs.Fields.{three_at};
 
-#[derive(Drop)]
+#[derive(Clone, Copy)]
 pub struct Reader<'a> {
     pub src: &'a [u8],
     pub at: usize,
 }
 
 // Three fields.
-#[derive(Drop)]
+#[derive(Clone, Copy)]
 pub struct Triple {
     pub first: u32,
     pub second: u32,

@@ -1,4 +1,6 @@
 // A sheet read: its plan, or the number of the refusal.
+#![tactic(auto)]
+
 ghost use Rattle.std.specs.Prelude.{◌≡◌, ◌+◌, ◌*◌, ◌≤◌, length};
 ghost use Rattle.theory.specs.Limits.{most_components, most_entries};
 ghost use Rattle.plan.specs.Tests.{first_broken};
@@ -12,14 +14,14 @@ use plan::{
 use theory::Component;
 
 // What reading a sheet finds: the number of the refusal and a plan of zeros, or 0 and the plan.
-#[derive(Drop)]
+#[derive(Clone, Copy)]
 pub struct Reading {
     pub plan: Plan,
     pub number: u8,
 }
 
 // What reading a sheet's head finds: number 1, 2 or 3 and the count 0, or 0 and the component count.
-#[derive(Drop)]
+#[derive(Clone, Copy)]
 pub struct Head {
     pub number: u8,
     pub count: usize,
@@ -27,7 +29,7 @@ pub struct Head {
 
 // The blocks of a sheet, read in turn: the components, whether one is cut short (number 4), whether a bit named zero is one
 // (number 5), which of the rules 6, 7 and 8 some component breaks, and the byte behind the last block.
-#[derive(Drop)]
+#[derive(Clone, Copy)]
 pub struct Blocks {
     pub components: [Component; theory::MOST_COMPONENTS],
     pub cut: bool,

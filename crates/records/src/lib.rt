@@ -1,6 +1,8 @@
 // Lists of intervals in a buffer that the caller lends: records of 12 bytes, low 16 bits, high 16 bits, weight 64 bits, each most
 // significant byte first. Low and high as one number are a record's key.
 
+#![tactic(auto)]
+
 ghost use Rattle.std.specs.Prelude.{◌≡◌, ◌+◌, ◌*◌, ◌≤◌, length};
 ghost use Rattle.std.proofs.Math.Dec.{compare_is_eq};
 ghost use Rattle.theory.specs.Order.{order, InOrder};
@@ -15,7 +17,7 @@ use theory::RECORD_BYTES;
 pub const SPEED_LIMIT: u64 = 65536;
 
 // What an insertion answers: the length that the list then would have, and the interval's place.
-#[derive(Drop)]
+#[derive(Clone, Copy)]
 pub struct Insertion {
     pub count: usize,
     pub place: usize,

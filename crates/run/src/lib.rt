@@ -1,4 +1,6 @@
 // The run of a plan in a store that the caller lends: its entries one after the other, on a stack of lists.
+#![tactic(auto)]
+
 ghost use Rattle.std.specs.Prelude.{◌≡◌, ◌+◌, ◌*◌, ◌^◌, ◌<◌};
 ghost use Rattle.theory.specs.Limits.{most_components, record_bytes};
 ghost use Rattle.run.specs.Stack.{empty_stack, with_list, Pushable, pushed, pushed_store, Applicable, join_step, join_store};
@@ -10,7 +12,7 @@ use theory::{Component, Entry, Join};
 
 // The lists on the stack: where each starts in the store and how many records it has, the first `depth` in use; the byte behind them
 // all; the pairs formed so far.
-#[derive(Drop)]
+#[derive(Clone, Copy)]
 pub struct Stack {
     pub starts: [usize; theory::MOST_COMPONENTS],
     pub counts: [usize; theory::MOST_COMPONENTS],
@@ -20,14 +22,14 @@ pub struct Stack {
 }
 
 // What a join does: the number of the refusal, or 0, and the stack.
-#[derive(Drop)]
+#[derive(Clone, Copy)]
 pub struct Step {
     pub number: u8,
     pub stack: Stack,
 }
 
 // What a plan's run answers: the number of the refusal and zeros, or 0, the pairs formed and the length of the list that is left.
-#[derive(Drop)]
+#[derive(Clone, Copy)]
 pub struct Ran {
     pub number: u8,
     pub pairs: u64,

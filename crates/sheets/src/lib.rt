@@ -1,4 +1,6 @@
 // The writer and the reader for C hosts, on byte slices: a plan as bytes to a sheet, and a sheet to a plan as bytes.
+#![tactic(auto)]
+
 ghost use Rattle.std.specs.Prelude.{◌≡◌};
 ghost use Rattle.sheets.specs.Sheets.{write_number, sheet_after, length_after, read_number, plan_after};
 

@@ -1,4 +1,6 @@
 // What specs and code share of a drive: the limits, a component by value, the entries of a structure, and the joins of two speeds.
+#![tactic(auto)]
+
 ghost use Rattle.std.specs.Prelude.{◌≡◌, ◌+◌, min};
 ghost use Rattle.theory.specs.Joins.{joined};
 ghost use Rattle.theory.specs.Limits.{top_speed};
@@ -28,7 +30,7 @@ pub const MOST_DEMANDS: usize = 16;
 
 // A module: up to eight intervals of speed with their weights, the first `count` places in use, and its total T. What the weights leave of T
 // is the rest: specs/Masses.antt.
-#[derive(Drop)]
+#[derive(Clone, Copy)]
 pub struct Component {
     pub lows: [u16; MOST_HELD],
     pub highs: [u16; MOST_HELD],
@@ -38,7 +40,7 @@ pub struct Component {
 }
 
 // How two parts of a drive are joined.
-#[derive(Drop)]
+#[derive(Clone, Copy)]
 pub enum Join {
     Series,
     Shared,
@@ -46,7 +48,7 @@ pub enum Join {
 }
 
 // An entry of a structure: a component by its number, or a join of the two topmost lists.
-#[derive(Drop)]
+#[derive(Clone, Copy)]
 pub enum Entry {
     Component(usize),
     Join(Join),

@@ -1,4 +1,6 @@
 // What C hosts pass as bytes, most significant first: a plan, as numbers of 16 bits at fixed places; the demands of a set, 32 bits each.
+#![tactic(auto)]
+
 ghost use Rattle.std.specs.Prelude.{◌≡◌, ◌++◌, ◌+◌, ◌*◌, ◌≤◌, length, drop};
 ghost use Rattle.theory.specs.Limits.{most_held, most_entries};
 ghost use Rattle.wire.specs.Wire.{number_bytes, component_size, entries_start, plan_bytes, number_in, numbers_in, decode_component, decode_plan};
@@ -142,7 +144,7 @@ pub fn encode_plan(out: &mut [u8], p: Plan)
 const DEMAND_BYTES: usize = 4;
 
 // The demands of a set: the first `count` places are used.
-#[derive(Drop)]
+#[derive(Clone, Copy)]
 pub struct Demands {
     pub values: [u32; theory::MOST_DEMANDS],
     pub count: usize,

@@ -1,4 +1,6 @@
 // A plan written as a sheet.
+#![tactic(auto)]
+
 ghost use Rattle.std.specs.Prelude.{◌≡◌, ◌+◌, ◌*◌, ◌≤◌, map, length};
 ghost use Rattle.field.specs.Fields.{bits, put_all};
 ghost use Rattle.plan.specs.Sheet.{head_bytes, entry_bits};
@@ -12,7 +14,7 @@ use plan::{
 };
 
 // What writing a plan comes to: the number of the refusal and length 0, or 0 and the sheet's length.
-#[derive(Drop)]
+#[derive(Clone, Copy)]
 pub struct Written {
     pub number: u8,
     pub length: usize,

@@ -10,7 +10,7 @@ use Rattle.field.specs.Bits.{field_at}
 use Rattle.reader.specs.Fields.{three_at}
 use Rattle.reader.specs.declared.Triple.{Triple}
 use Rattle.theory.specs.declared.Component.{Component}
-use Rattle.block.specs.Block.{count_bits, zero_bits_are_zero, total_bits, place_of, size_of, padding_of, count_in, bad_zero_bits, component_of, no_block, block_in}
+use Rattle.block.specs.Block.{count_bits, zero_bits, total_bits, place_of, size_of, padding_of, count_in, bad_zero_bits, component_of, no_block, block_in}
 use Rattle.block.specs.declared.Block.{Block}
 use Rattle.block.proofs.Laws.{Uncut, narrow, is_uncut, is_cut, block_uncut, block_cut}
 use Rattle.block.proofs.read_block.Statement.{statement}
@@ -24,7 +24,7 @@ counted : (c : tie.After-three) → c.three.result.first ≡ count_in (part c)
 counted c = ap (λ (t : Triple). t.first) c.three.ensures
 
 -- The answer, of its parts.
-built : (s : List ℕ) (h : Triple) (size end width padding : ℕ) (c : Component) (b : Bool) → h ≡ three_at s 0 count_bits zero_bits_are_zero total_bits
+built : (s : List ℕ) (h : Triple) (size end width padding : ℕ) (c : Component) (b : Bool) → h ≡ three_at s 0 count_bits zero_bits total_bits
     → size ≡ size_of h.first → end ≡ place_of h.first → width ≡ padding_of h.first → padding ≡ field_at s end width
     → c ≡ component_of s h.first h.third → b ≡ (ltb 0 h.second || ltb 0 padding) → Uncut s
     → ◌≡◌ {A = Block} (record { cut = false; nonzero = b; size = size; component = c }) (block_in s)
@@ -59,7 +59,7 @@ returns-4 c =
 cast-read-component : tie.Need-overflow-cast-read-component
 cast-read-component c =
     let t = c.before.before.before.before.before.before.before.before.before in
-    record { fits = (narrow _ 0 count_bits zero_bits_are_zero total_bits t.three.result (lit≤ tt) (lit≤ tt) (lit≤ tt) t.three.ensures).2 }
+    record { fits = (narrow _ 0 count_bits zero_bits total_bits t.three.result (lit≤ tt) (lit≤ tt) (lit≤ tt) t.three.ensures).2 }
 
 returns-5 : tie.Need-returns-5
 returns-5 c =
