@@ -1,10 +1,7 @@
 -- `numbers::read_number` meets its contract. The invariant: the bytes passed spell the number so far. Assumes nothing.
-use mathlib.Core.Path.{◌≡◌, ap, ◌∙◌}
-use Prim.Native.Nat.{◌≤◌, ◌<◌, ◌+◌, ◌-◌, ◌^◌}
-use native.Mathlib.Omega.{arith}
-use borrow.Author.Rules.{rules}
-use Rattle.numbers.specs.Numbers.{onto, number_at}
-use Rattle.numbers.proofs.Numbers.{pow7, grow, number-next}
+use mathlib.Core.Path.{◌≡◌}
+use Prim.Native.Nat.{◌≤◌, ◌<◌, ◌-◌, ◌^◌}
+use Rattle.numbers.specs.Numbers.{number_at}
 use Rattle.numbers.proofs.read_number.Given as goal
 
 abbrev pub invariant-loop-i : goal.invariant-loop-i
