@@ -12,7 +12,7 @@
  * answers the greatest speed that the logs vouch for at that share.
  *
  * Link libdrive.a or libdrive.so (x86-64 Linux, System V calling convention):
- *   cc -Ihost program.c target/staticlib/libdrive.a     (in the repository, after rt staticlib drive)
+ *   cc -Ihost program.c target/staticlib/libdrive.a     (in the repository, after host/library)
  *   cc program.c $(pkg-config --cflags --libs drive)    (after host/install PREFIX; with CMake find_package(drive), drive::drive)
  *
  * A joystick and a motor driver in series, at a demand of 1,500 mm/s:

@@ -1,0 +1,11 @@
+-- `records::settle` meets its contract. Assumes nothing.
+use mathlib.Core.Path.{◌∙◌}
+use native.Mathlib.Omega.{arith}
+use borrow.Author.Rules.{rules}
+use Rattle.records.proofs.Store.{settles}
+use Rattle.records.proofs.settle.Goals as goal
+
+pub returns : goal.returns
+returns c =
+    let a = c.args in
+    c.clear.ensures ∙ settles a.store.now c.move_to_front.new.s a.start a.n a.end (search rules) (omega arith) (omega arith) c.move_to_front.ensures
