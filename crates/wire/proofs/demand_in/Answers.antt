@@ -1,0 +1,9 @@
+-- `wire::demand_in` meets its contract. Assumes nothing.
+use Rattle.std.proofs.Common.{◌*◌, arith}
+use Rattle.numbers.proofs.Numbers.{number_lt}
+use Rattle.wire.specs.Demands.{demand_bytes}
+use Rattle.wire.proofs.demand_in.Goals as goal
+
+-- Four bytes hold a number below 2 ^ 32.
+pub overflow_cast-result : goal.overflow_cast-result
+overflow_cast-result c = omega (arith, number_lt c.args.s.now (demand_bytes * c.args.i) demand_bytes (λ k. (c.type_inv.s k).fits))
