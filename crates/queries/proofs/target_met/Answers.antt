@@ -1,15 +1,14 @@
 -- `queries::target_met` meets its contract: the product of target and total by quotient and rest of the total. Assumes nothing.
-use Prim.Native.Nat.{ℕ, ◌+◌, ◌*◌, ◌/◌, ◌%◌, ◌≤◌}
+use Prim.Native.Nat.{ℕ, ◌+◌, ◌*◌, ◌/◌, ◌%◌}
 use mathlib.Core.Path.{◌≡◌, refl, ap, ◌∙◌}
 use mathlib.Core.Bool.{Bool, true, false}
-use native.Mathlib.Nat.{mul-add, mul_left_comm, mul-le-mul_right}
+use native.Mathlib.Nat.{mul-add, mul_left_comm}
 use native.Mathlib.Omega.{arith}
 use lib.Dec.{leb}
 use borrow.Author.Tests.{leb-true, leb-false, le-leb, lt-leb}
 use Rattle.theory.specs.Limits.{thousandths}
 use Rattle.theory.specs.Speed.{meets}
-use Rattle.queries.proofs.target_met.Statement.{statement}
-use Rattle.queries.proofs.target_met.Tie as tie
+use Rattle.queries.proofs.target_met.Goals as goal
 
 -- The product, by quotient and rest.
 split : (target total : ℕ) → target * total ≡ thousandths * (target * (total / 1000)) + target * (total % 1000)
@@ -28,16 +27,5 @@ compared target total share = go (meets target total share) refl
     go true e = le-leb (least target total) share (omega (arith, split target total, leb-true (target * total) (thousandths * share) e))
     go false e = lt-leb (least target total) share (omega (arith, split target total, leb-false (target * total) (thousandths * share) e))
 
--- Quotient and rest, taken target times.
-module _ (c : tie.Start) where
-  quotient : c.args.target * (c.args.total / 1000) ≤ 1000 * (c.args.total / 1000)
-  quotient = mul-le-mul_right (c.args.total / 1000) c.requires
-
-  rest : c.args.target * (c.args.total % 1000) ≤ 1000 * (c.args.total % 1000)
-  rest = mul-le-mul_right (c.args.total % 1000) c.requires
-
-pub target_met_spec : {M : Type 1} → statement M
-target_met_spec =
-    tie.close
-    (tie.spec (λ c. omega (arith, quotient c)) (λ c. omega (arith, rest c)) (λ c. omega arith) (λ c. omega (arith, rest c)) (λ c. omega (arith, quotient c, rest c))
-    (λ c. compared c.args.target c.args.total c.args.share))
+pub returns : goal.returns
+returns c = compared c.args.target c.args.total c.args.share
