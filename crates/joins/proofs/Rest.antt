@@ -4,18 +4,16 @@ use mathlib.Core.List.{List, ◌++◌, append-nil}
 use Prim.Native.Nat.{ℕ, ◌+◌, ◌*◌, ◌-◌, ◌≤◌}
 use native.Mathlib.Omega.{arith}
 use lib.ListN.{length, take, drop, length-drop, drop_of_length-le}
-use lib.Seq.{length-take-le, take-length}
 use Rattle.records.specs.Records.{records}
 use Rattle.records.specs.Store.{copied_from, list_in}
 use Rattle.records.proofs.Store.{copy_holds}
 
--- The n records from `start` on are copied to the front of z.
-pub copied : (s z e : List ℕ) (start n : ℕ) → start + 12 * n ≤ length s → let x = take (start + 12 * n - start) (drop start s) in
-    e ≡ take (length x) x ++ drop (length x) z → (e ≡ copied_from s start (12 * n) z) × (records n e ≡ list_in s start n)
-copied s z e start n h q =
+-- The n records from `start` on are copied over the front of z.
+pub copied : (s z x : List ℕ) (start n : ℕ) → start + 12 * n ≤ length s → x ≡ take (start + 12 * n - start) (drop start s) → let e = x ++ drop (12 * n) z in
+    (e ≡ copied_from s start (12 * n) z) × (records n e ≡ list_in s start n)
+copied s z x start n h q =
     let m : start + 12 * n - start ≡ 12 * n = omega arith in
-    let l : length (take (12 * n) (drop start s)) ≡ 12 * n = length-take-le (12 * n) (drop start s) (rw length-drop (omega arith)) in
-    let c : e ≡ copied_from s start (12 * n) z = q ∙ rw (m, take-length, l) in
+    let c : x ++ drop (12 * n) z ≡ copied_from s start (12 * n) z = ap (λ (l : List ℕ). l ++ drop (12 * n) z) (rw m at q) in
     (c, ap (records n) c ∙ copy_holds s (drop (12 * n) z) start n h)
 
 -- The rest of the store from `free` on was lent whole and came back as e.

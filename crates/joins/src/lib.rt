@@ -143,8 +143,8 @@ fn join_copied(
 {
     let left_end = left + RECORD_BYTES * na;
     let right_end = right + RECORD_BYTES * nb;
-    bytes::copy(&store[left..left_end], a);
-    bytes::copy(&store[right..right_end], b);
+    a[..RECORD_BYTES * na].copy_from_slice(&store[left..left_end]);
+    b[..RECORD_BYTES * nb].copy_from_slice(&store[right..right_end]);
     let n = join_lists(op, a, na, b, nb, &mut store[free..]);
     if n <= MOST_INTERVALS {
         Joined::Made(n)
