@@ -17,8 +17,9 @@ ghost use Rattle.bench_table.specs.Rows.{component_of, single_speeds, component_
 ghost use Rattle.bench_table.specs.Rows.{bytes_of, shares_held, answers_differ, runs_differ, shares_differ, record_differs, list_differs, speeds_down, speeds_to_ceiling};
 
 use evaluate::{Answer, SheetRun, SpeedAnswer};
-use libc::STDOUT_FILENO;
 use plan::{Plan, SERIES_CODE, SHARED_CODE, SPARE_CODE};
+use std::io;
+use std::io::{Print, Stdout};
 use theory::Component;
 
 // The bytes of the longest sheet, and of the store in all rows but one.
@@ -241,65 +242,63 @@ fn list_differs(store: &[u8; ROOM], count: u64, list: &[u64]) -> bool
     false
 }
 
-fn print(word: &[u8], n: u64) {
-    io::write_all(STDOUT_FILENO, word);
-    io::print_decimal(STDOUT_FILENO, n);
-}
-
-fn print_answer(a: Answer) {
-    print(b": number ", numbers::wide(a.number));
-    print(b", total ", a.total);
-    print(b", belief ", a.belief);
-    print(b", plausibility ", a.plausibility);
-    print(b", pairs ", a.pairs);
-    print(b", intervals ", a.intervals);
+fn print_answer(out: Stdout, a: Answer) -> io::Result<()> {
+    print!(out;
+        ": number {}, total {}, belief {}",
+        a.number, a.total, a.belief
+    )?;
+    print!(out;
+        ", plausibility {}, pairs {}, intervals {}",
+        a.plausibility, a.pairs, a.intervals
+    )
 }
 
 // Prints record i.
-fn print_record(store: &[u8; ROOM], i: usize)
+fn print_record(out: Stdout, store: &[u8; ROOM], i: usize) -> io::Result<()>
     requires { i < most_intervals }
 {
     let at = theory::RECORD_BYTES * i;
-    print(b" [", numbers::read_number(store, at, 2));
-    print(b",", numbers::read_number(store, at + 2, 2));
-    print(b"] ", numbers::read_number(store, at + 4, 8));
+    let low = numbers::read_number(store, at, 2);
+    let high = numbers::read_number(store, at + 2, 2);
+    let weight = numbers::read_number(store, at + 4, 8);
+    print!(out; " [{low},{high}] {weight}")
 }
 
 // Prints a list of at most four records.
-fn print_list(store: &[u8; ROOM], count: u64) {
+fn print_list(out: Stdout, store: &[u8; ROOM], count: u64) -> io::Result<()> {
     for i in 0..4 {
         if (i as u64) < count && count <= 4 {
-            print_record(store, i);
+            print_record(out, store, i)?;
         }
     }
+    Ok(())
 }
 
-fn print_run(r: SheetRun) {
-    print(b": number ", numbers::wide(r.number));
-    print(b", total ", r.total);
-    print(b", pairs ", r.pairs);
-    print(b", intervals ", r.intervals as u64);
+fn print_run(out: Stdout, r: SheetRun) -> io::Result<()> {
+    print!(out;
+        ": number {}, total {}, pairs {}, intervals {}",
+        r.number, r.total, r.pairs, r.intervals
+    )
 }
 
 // Prints the shares at demand i.
-fn print_pair(shares: &[u8; SHARES_ROOM], i: usize)
+fn print_pair(out: Stdout, shares: &[u8; SHARES_ROOM], i: usize) -> io::Result<()>
     requires { i < 4 }
 {
     let at = queries::SHARES_BYTES * i;
-    print(b", belief ", numbers::read_number(shares, at, 8));
-    print(
-        b" and plausibility ",
-        numbers::read_number(shares, at + 8, 8),
-    );
+    let belief = numbers::read_number(shares, at, 8);
+    let plausibility = numbers::read_number(shares, at + 8, 8);
+    print!(out; ", belief {belief} and plausibility {plausibility}")
 }
 
 // Prints the shares at the first `count` demands, at most four.
-fn print_shares(shares: &[u8; SHARES_ROOM], count: usize) {
+fn print_shares(out: Stdout, shares: &[u8; SHARES_ROOM], count: usize) -> io::Result<()> {
     for i in 0..4 {
         if i < count {
-            print_pair(shares, i);
+            print_pair(out, shares, i)?;
         }
     }
+    Ok(())
 }
 
 // Every speed from 255 down to 0, with weight 1: the list of D1, D2 and D3 with 4.
@@ -329,30 +328,39 @@ fn speeds_to_ceiling() -> [u64; 3 * theory::MOST_INTERVALS]
 }
 
 // Prints whether a row disagrees. Answers how many rows do, n before this one.
-fn verdict(n: u64, wrong: bool) -> u64 {
+fn verdict(out: Stdout, n: u64, wrong: bool) -> io::Result<u64> {
     if wrong {
-        io::write_all(STDOUT_FILENO, b": DISAGREES\n");
-        return std::num::wrapping_add_u64(n, 1);
+        println!(out; ": DISAGREES")?;
+        return Ok(std::num::wrapping_add_u64(n, 1));
     }
-    io::write_all(STDOUT_FILENO, b": agrees\n");
-    n
+    println!(out; ": agrees")?;
+    Ok(n)
 }
 
 // Prints an answer, its list, and whether both agree with the table; `wrong` says that something else does not.
-fn judge(n: u64, a: Answer, want: Answer, store: &[u8; ROOM], list: &[u64], wrong: bool) -> u64
+fn judge(
+    out: Stdout,
+    n: u64,
+    a: Answer,
+    want: Answer,
+    store: &[u8; ROOM],
+    list: &[u64],
+    wrong: bool,
+) -> io::Result<u64>
     requires { length list.now ≤ 3 * most_intervals }
 {
-    print_answer(a);
-    print_list(store, a.intervals);
+    print_answer(out, a)?;
+    print_list(out, store, a.intervals)?;
     let differs = plan::either(
         answers_differ(a, want),
         list_differs(store, a.intervals, list),
     );
-    verdict(n, plan::either(wrong, differs))
+    verdict(out, n, plan::either(wrong, differs))
 }
 
 // Runs a row on a store of `room` bytes.
 fn row(
+    out: Stdout,
     n: u64,
     s: Sheet,
     demand: u32,
@@ -360,16 +368,17 @@ fn row(
     room: usize,
     want: Answer,
     list: &[u64],
-) -> u64
+) -> io::Result<u64>
     requires { (room ≤ store_bytes) × (length list.now ≤ 3 * most_intervals) }
 {
     let mut store = [0u8; ROOM];
     let a = answered(s, demand, allowance, &mut store[0..room]);
-    judge(n, a, want, &store, list, false)
+    judge(out, n, a, want, &store, list, false)
 }
 
 // Runs a row for a speed.
 fn speed_row(
+    out: Stdout,
     n: u64,
     s: Sheet,
     target: u32,
@@ -378,18 +387,19 @@ fn speed_row(
     speed: u64,
     want: Answer,
     list: &[u64],
-) -> u64
+) -> io::Result<u64>
     requires { (room ≤ store_bytes) × (length list.now ≤ 3 * most_intervals) }
 {
     let mut store = [0u8; ROOM];
     let p = speed_answered(s, target, allowance, &mut store[0..room]);
     let a = p.answer;
-    print(b": speed ", p.speed);
-    judge(n, a, want, &store, list, p.speed != speed)
+    print!(out; ": speed {}", p.speed)?;
+    judge(out, n, a, want, &store, list, p.speed != speed)
 }
 
 // Runs a row for a set of demands, on a shares' buffer of `bytes` bytes; `pairs` are its numbers afterwards.
 fn set_row(
+    out: Stdout,
     n: u64,
     s: Sheet,
     demands: &[u32],
@@ -399,7 +409,7 @@ fn set_row(
     want: SheetRun,
     pairs: [u64; SHARES_HELD],
     list: &[u64],
-) -> u64
+) -> io::Result<u64>
     requires { (room ≤ store_bytes) × (bytes ≤ 8 * shares_held) × (length list.now ≤ 3 * most_intervals) }
 {
     let mut store = [0u8; ROOM];
@@ -411,22 +421,38 @@ fn set_row(
         &mut store[0..room],
         &mut shares[0..bytes],
     );
-    print_run(r);
+    print_run(out, r)?;
     if r.number == 0 {
-        print_shares(&shares, demands.len());
+        print_shares(out, &shares, demands.len())?;
     }
-    print_list(&store, r.intervals as u64);
+    print_list(out, &store, r.intervals as u64)?;
     let differs = plan::either(
         runs_differ(r, want),
         list_differs(&store, r.intervals as u64, list),
     );
-    verdict(n, plan::either(shares_differ(&shares, pairs), differs))
+    verdict(out, n, plan::either(shares_differ(&shares, pairs), differs))
 }
 
 // An accepted row of case P2.
-fn shared_row(n: u64, demand: u32, allowance: u32, belief: u64, plausibility: u64) -> u64 {
+fn shared_row(
+    out: Stdout,
+    n: u64,
+    demand: u32,
+    allowance: u32,
+    belief: u64,
+    plausibility: u64,
+) -> io::Result<u64> {
     let want = accepted(12, belief, plausibility, 4, 4);
-    row(n, a_and_b(SHARED_CODE), demand, allowance, ROOM, want, &P2)
+    row(
+        out,
+        n,
+        a_and_b(SHARED_CODE),
+        demand,
+        allowance,
+        ROOM,
+        want,
+        &P2,
+    )
 }
 
 fn refusal(number: u8) -> Answer
@@ -443,17 +469,33 @@ fn refusal(number: u8) -> Answer
 }
 
 // A refused row.
-fn refused_row(n: u64, s: Sheet, demand: u32, allowance: u32, room: usize, number: u8) -> u64
+fn refused_row(
+    out: Stdout,
+    n: u64,
+    s: Sheet,
+    demand: u32,
+    allowance: u32,
+    room: usize,
+    number: u8,
+) -> io::Result<u64>
     requires { room ≤ store_bytes }
 {
-    row(n, s, demand, allowance, room, refusal(number), &[])
+    row(out, n, s, demand, allowance, room, refusal(number), &[])
 }
 
 // A refused row for a speed, which is then 0.
-fn no_speed_row(n: u64, s: Sheet, target: u32, allowance: u32, room: usize, number: u8) -> u64
+fn no_speed_row(
+    out: Stdout,
+    n: u64,
+    s: Sheet,
+    target: u32,
+    allowance: u32,
+    room: usize,
+    number: u8,
+) -> io::Result<u64>
     requires { room ≤ store_bytes }
 {
-    speed_row(n, s, target, allowance, room, 0, refusal(number), &[])
+    speed_row(out, n, s, target, allowance, room, 0, refusal(number), &[])
 }
 
 fn refused_run(number: u8) -> SheetRun
@@ -469,6 +511,7 @@ fn refused_run(number: u8) -> SheetRun
 
 // A refused row for a set of demands, which leaves the shares' buffer.
 fn no_set_row(
+    out: Stdout,
     n: u64,
     s: Sheet,
     demands: &[u32],
@@ -476,10 +519,11 @@ fn no_set_row(
     room: usize,
     bytes: usize,
     number: u8,
-) -> u64
+) -> io::Result<u64>
     requires { (room ≤ store_bytes) × (bytes ≤ 8 * shares_held) }
 {
     set_row(
+        out,
         n,
         s,
         demands,
@@ -493,23 +537,32 @@ fn no_set_row(
 }
 
 // P1 to P6.
-fn rows_of_a_and_b(mut n: u64) -> u64 {
+fn rows_of_a_and_b(out: Stdout, mut n: u64) -> io::Result<u64> {
     let series = a_and_b(SERIES_CODE);
     let spare = a_and_b(SPARE_CODE);
-    io::write_all(STDOUT_FILENO, b"P1 A, B series, demand 2");
-    n = row(n, series, 2, 1000, ROOM, accepted(12, 0, 3, 4, 3), &P1);
-    io::write_all(STDOUT_FILENO, b"P2 A, B shared, demand 1");
-    n = shared_row(n, 1, 1000, 12, 12);
-    io::write_all(STDOUT_FILENO, b"P3 same, demand 3");
-    n = shared_row(n, 3, 1000, 9, 10);
-    io::write_all(STDOUT_FILENO, b"P4 same, demand 7");
-    n = shared_row(n, 7, 1000, 0, 3);
-    io::write_all(STDOUT_FILENO, b"P4 same, demand 8");
-    n = shared_row(n, 8, 1000, 0, 0);
-    io::write_all(STDOUT_FILENO, b"P5 same, demand 0");
-    n = shared_row(n, 0, 1000, 12, 12);
-    io::write_all(STDOUT_FILENO, b"P6 A, B spare, demand 0");
-    row(n, spare, 0, 1000, ROOM, accepted(12, 12, 12, 4, 4), &P6)
+    print!(out; "P1 A, B series, demand 2")?;
+    n = row(out, n, series, 2, 1000, ROOM, accepted(12, 0, 3, 4, 3), &P1)?;
+    print!(out; "P2 A, B shared, demand 1")?;
+    n = shared_row(out, n, 1, 1000, 12, 12)?;
+    print!(out; "P3 same, demand 3")?;
+    n = shared_row(out, n, 3, 1000, 9, 10)?;
+    print!(out; "P4 same, demand 7")?;
+    n = shared_row(out, n, 7, 1000, 0, 3)?;
+    print!(out; "P4 same, demand 8")?;
+    n = shared_row(out, n, 8, 1000, 0, 0)?;
+    print!(out; "P5 same, demand 0")?;
+    n = shared_row(out, n, 0, 1000, 12, 12)?;
+    print!(out; "P6 A, B spare, demand 0")?;
+    row(
+        out,
+        n,
+        spare,
+        0,
+        1000,
+        ROOM,
+        accepted(12, 12, 12, 4, 4),
+        &P6,
+    )
 }
 
 // W.
@@ -532,24 +585,33 @@ fn a_and_b_as(first: u8, second: u8) -> Sheet
 }
 
 // P7 to P10.
-fn rows_of_w_and_refusals(mut n: u64) -> u64 {
+fn rows_of_w_and_refusals(out: Stdout, mut n: u64) -> io::Result<u64> {
     let w = sheet_w();
     let all = accepted(10000, 10000, 10000, 6, 4);
     let shared = a_and_b(SHARED_CODE);
-    io::write_all(STDOUT_FILENO, b"P7 W, demand 0");
-    n = row(n, w, 0, 1000, ROOM, all, &P7);
-    io::write_all(STDOUT_FILENO, b"P8 W, demand 7");
-    n = row(n, w, 7, 1000, ROOM, accepted(10000, 429, 2640, 6, 4), &P7);
-    io::write_all(STDOUT_FILENO, b"P9 case P2, demand 3, allowance 4");
-    n = shared_row(n, 3, 4, 9, 10);
-    io::write_all(STDOUT_FILENO, b"P9 case P2, demand 3, allowance 3");
-    n = refused_row(n, shared, 3, 3, ROOM, 13);
-    io::write_all(STDOUT_FILENO, b"P10 structure 8 0 1");
-    refused_row(n, a_and_b_as(0x80, 0x10), 0, 1000, ROOM, 11)
+    print!(out; "P7 W, demand 0")?;
+    n = row(out, n, w, 0, 1000, ROOM, all, &P7)?;
+    print!(out; "P8 W, demand 7")?;
+    n = row(
+        out,
+        n,
+        w,
+        7,
+        1000,
+        ROOM,
+        accepted(10000, 429, 2640, 6, 4),
+        &P7,
+    )?;
+    print!(out; "P9 case P2, demand 3, allowance 4")?;
+    n = shared_row(out, n, 3, 4, 9, 10)?;
+    print!(out; "P9 case P2, demand 3, allowance 3")?;
+    n = refused_row(out, n, shared, 3, 3, ROOM, 13)?;
+    print!(out; "P10 structure 8 0 1")?;
+    refused_row(out, n, a_and_b_as(0x80, 0x10), 0, 1000, ROOM, 11)
 }
 
 // The others. Byte 3 of a sheet ends the first component's T.
-fn rows_of_limits(mut n: u64) -> u64 {
+fn rows_of_limits(out: Stdout, mut n: u64) -> io::Result<u64> {
     let five = d_with(5);
     let list = every_speed();
     let all = accepted(256, 256, 256, 320, 256);
@@ -558,26 +620,35 @@ fn rows_of_limits(mut n: u64) -> u64 {
     let mut t_above = t;
     t_above.bytes[3] = 0xE9;
     let shared = a_and_b(SHARED_CODE);
-    io::write_all(STDOUT_FILENO, b"D1, D2, D3 with 4, demand 0");
-    n = row(n, d_with(4), 0, 1000, ROOM, all, &list);
-    io::write_all(STDOUT_FILENO, b"D1, D2, D3 with 5, allowance 384");
-    n = refused_row(n, five, 0, 384, ROOM, 14);
-    io::write_all(STDOUT_FILENO, b"D1, D2, D3 with 5, allowance 383");
-    n = refused_row(n, five, 0, 383, ROOM, 13);
-    io::write_all(STDOUT_FILENO, b"T 1,000, demand 1");
-    n = row(n, t, 1, 1000, ROOM, accepted(1000, 0, 1000, 0, 1), &T1000);
-    io::write_all(STDOUT_FILENO, b"T 1,001, demand 1");
-    n = refused_row(n, t_above, 1, 1000, ROOM, 6);
-    io::write_all(STDOUT_FILENO, b"buffer 16,384 bytes, demand 3");
-    n = shared_row(n, 3, 1000, 9, 10);
-    io::write_all(STDOUT_FILENO, b"buffer 16,383 bytes, demand 3");
-    n = refused_row(n, shared, 3, 1000, ROOM - 1, 12);
-    io::write_all(STDOUT_FILENO, b"structure 0 0 8");
-    refused_row(n, a_and_b_as(0x00, 0x80), 0, 1000, ROOM, 10)
+    print!(out; "D1, D2, D3 with 4, demand 0")?;
+    n = row(out, n, d_with(4), 0, 1000, ROOM, all, &list)?;
+    print!(out; "D1, D2, D3 with 5, allowance 384")?;
+    n = refused_row(out, n, five, 0, 384, ROOM, 14)?;
+    print!(out; "D1, D2, D3 with 5, allowance 383")?;
+    n = refused_row(out, n, five, 0, 383, ROOM, 13)?;
+    print!(out; "T 1,000, demand 1")?;
+    n = row(
+        out,
+        n,
+        t,
+        1,
+        1000,
+        ROOM,
+        accepted(1000, 0, 1000, 0, 1),
+        &T1000,
+    )?;
+    print!(out; "T 1,001, demand 1")?;
+    n = refused_row(out, n, t_above, 1, 1000, ROOM, 6)?;
+    print!(out; "buffer 16,384 bytes, demand 3")?;
+    n = shared_row(out, n, 3, 1000, 9, 10)?;
+    print!(out; "buffer 16,383 bytes, demand 3")?;
+    n = refused_row(out, n, shared, 3, 1000, ROOM - 1, 12)?;
+    print!(out; "structure 0 0 8")?;
+    refused_row(out, n, a_and_b_as(0x00, 0x80), 0, 1000, ROOM, 10)
 }
 
 // Time that nobody accounted for. Byte 3 of the sheet of A and B ends A's T.
-fn rows_of_rests(mut n: u64) -> u64 {
+fn rows_of_rests(out: Stdout, mut n: u64) -> io::Result<u64> {
     let logged = component(1000, 2, [900, 1400, 500], [1200, 2000, 440], [0; 3]);
     let any = component(10, 2, [0, 4095, 3], [5, 6, 4], [0; 3]);
     let little = component(1000, 1, [4095, 4095, 1], [0; 3], [0; 3]);
@@ -587,8 +658,9 @@ fn rows_of_rests(mut n: u64) -> u64 {
     above.bytes[3] = 3;
     let mut below = above;
     below.bytes[3] = 5;
-    io::write_all(STDOUT_FILENO, b"940 of 1,000 accounted for, demand 1,000");
+    print!(out; "940 of 1,000 accounted for, demand 1,000")?;
     n = row(
+        out,
         n,
         written(1, logged, any, any, SERIES_CODE),
         1000,
@@ -596,9 +668,10 @@ fn rows_of_rests(mut n: u64) -> u64 {
         ROOM,
         accepted(1000, 440, 1000, 0, 3),
         &[1200, 2000, 440, 900, 1400, 500, 0, 4095, 60],
-    );
-    io::write_all(STDOUT_FILENO, b"a rest where [0,4095] is listed, demand 5");
+    )?;
+    print!(out; "a rest where [0,4095] is listed, demand 5")?;
     n = row(
+        out,
         n,
         written(1, any, any, any, SERIES_CODE),
         5,
@@ -606,9 +679,10 @@ fn rows_of_rests(mut n: u64) -> u64 {
         ROOM,
         accepted(10, 4, 10, 0, 2),
         &[5, 6, 4, 0, 4095, 6],
-    );
-    io::write_all(STDOUT_FILENO, b"weight 1 of T 1,000, demand 4,095");
+    )?;
+    print!(out; "weight 1 of T 1,000, demand 4,095")?;
     n = row(
+        out,
         n,
         written(1, little, any, any, SERIES_CODE),
         4095,
@@ -616,9 +690,10 @@ fn rows_of_rests(mut n: u64) -> u64 {
         ROOM,
         accepted(1000, 1, 1000, 0, 2),
         &[4095, 4095, 1, 0, 4095, 999],
-    );
-    io::write_all(STDOUT_FILENO, b"eight intervals and a rest, demand 7");
+    )?;
+    print!(out; "eight intervals and a rest, demand 7")?;
     n = row(
+        out,
         n,
         written(1, eight, any, any, SERIES_CODE),
         7,
@@ -626,18 +701,25 @@ fn rows_of_rests(mut n: u64) -> u64 {
         ROOM,
         accepted(9, 1, 2, 0, 9),
         &NINE,
-    );
-    io::write_all(
-        STDOUT_FILENO,
-        b"two of these in series, demand 7, allowance 81",
-    );
-    n = row(n, nines, 7, 81, ROOM, accepted(81, 1, 4, 81, 16), &NINES);
-    io::write_all(STDOUT_FILENO, b"two of these in series, allowance 80");
-    n = refused_row(n, nines, 7, 80, ROOM, 13);
-    io::write_all(STDOUT_FILENO, b"case P2, A with T 3");
-    n = refused_row(n, above, 3, 1000, ROOM, 8);
-    io::write_all(STDOUT_FILENO, b"case P2, A with T 5, demand 3");
+    )?;
+    print!(out; "two of these in series, demand 7, allowance 81")?;
+    n = row(
+        out,
+        n,
+        nines,
+        7,
+        81,
+        ROOM,
+        accepted(81, 1, 4, 81, 16),
+        &NINES,
+    )?;
+    print!(out; "two of these in series, allowance 80")?;
+    n = refused_row(out, n, nines, 7, 80, ROOM, 13)?;
+    print!(out; "case P2, A with T 3")?;
+    n = refused_row(out, n, above, 3, 1000, ROOM, 8)?;
+    print!(out; "case P2, A with T 5, demand 3")?;
     row(
+        out,
         n,
         below,
         3,
@@ -649,13 +731,18 @@ fn rows_of_rests(mut n: u64) -> u64 {
 }
 
 // The row of D1, D2 and 0, 64, 128, 4,094, 4,095, whose list stands in the numbers from 186 on.
-fn ceiling_row(n: u64, s: Sheet, list: [u64; 3 * theory::MOST_INTERVALS]) -> u64 {
+fn ceiling_row(
+    out: Stdout,
+    n: u64,
+    s: Sheet,
+    list: [u64; 3 * theory::MOST_INTERVALS],
+) -> io::Result<u64> {
     let want = accepted(320, 127, 127, 384, 194);
-    row(n, s, 4095, 384, ROOM, want, &list[186..])
+    row(out, n, s, 4095, 384, ROOM, want, &list[186..])
 }
 
 // The ceiling of shared joins. Without it the second sheet's list would have six intervals, and the third's 257.
-fn rows_of_ceiling(mut n: u64) -> u64 {
+fn rows_of_ceiling(out: Stdout, mut n: u64) -> io::Result<u64> {
     let top = component(1, 1, [4095, 4095, 1], [0; 3], [0; 3]);
     let one = component(1, 1, [1, 1, 1], [0; 3], [0; 3]);
     let top_and_one = written(2, top, one, one, SHARED_CODE);
@@ -665,8 +752,9 @@ fn rows_of_ceiling(mut n: u64) -> u64 {
     let d2 = single_speeds([0, 8, 16, 24, 32, 40, 48, 56], 8, 8);
     let d3 = single_speeds([0, 64, 128, 4094, 4095, 0, 0, 0], 5, 5);
     let d = written(3, d1, d2, d3, SHARED_CODE);
-    io::write_all(STDOUT_FILENO, b"4,095 and 1 shared, demand 4,095");
+    print!(out; "4,095 and 1 shared, demand 4,095")?;
     n = row(
+        out,
         n,
         top_and_one,
         4095,
@@ -674,9 +762,10 @@ fn rows_of_ceiling(mut n: u64) -> u64 {
         ROOM,
         accepted(1, 1, 1, 1, 1),
         &[4095, 4095, 1],
-    );
-    io::write_all(STDOUT_FILENO, b"same, demand 4,096");
+    )?;
+    print!(out; "same, demand 4,096")?;
     n = row(
+        out,
         n,
         top_and_one,
         4096,
@@ -684,12 +773,10 @@ fn rows_of_ceiling(mut n: u64) -> u64 {
         ROOM,
         accepted(1, 0, 0, 1, 1),
         &[4095, 4095, 1],
-    );
-    io::write_all(
-        STDOUT_FILENO,
-        b"a list that the ceiling shortens, demand 4,095",
-    );
+    )?;
+    print!(out; "a list that the ceiling shortens, demand 4,095")?;
     n = row(
+        out,
         n,
         written(2, fast, slow, slow, SHARED_CODE),
         4095,
@@ -697,42 +784,44 @@ fn rows_of_ceiling(mut n: u64) -> u64 {
         ROOM,
         accepted(12, 8, 11, 6, 4),
         &[4095, 4095, 8, 4050, 4095, 2, 3095, 4095, 1, 3050, 4060, 1],
-    );
-    io::write_all(
-        STDOUT_FILENO,
-        b"D1, D2 and 0, 64, 128, 4,094, 4,095, demand 4,095, allowance 384",
-    );
-    n = ceiling_row(n, d, speeds_to_ceiling());
-    io::write_all(
-        STDOUT_FILENO,
-        b"D1, D2 and 0, 64, 128, 4,094, 4,095, allowance 383",
-    );
-    refused_row(n, d, 4095, 383, ROOM, 13)
+    )?;
+    print!(out; "D1, D2 and 0, 64, 128, 4,094, 4,095, demand 4,095, allowance 384")?;
+    n = ceiling_row(out, n, d, speeds_to_ceiling())?;
+    print!(out; "D1, D2 and 0, 64, 128, 4,094, 4,095, allowance 383")?;
+    refused_row(out, n, d, 4095, 383, ROOM, 13)
 }
 
 // A row of W for a speed.
-fn speed_of_w(n: u64, target: u32, speed: u64, belief: u64, plausibility: u64) -> u64 {
+fn speed_of_w(
+    out: Stdout,
+    n: u64,
+    target: u32,
+    speed: u64,
+    belief: u64,
+    plausibility: u64,
+) -> io::Result<u64> {
     let want = accepted(10000, belief, plausibility, 6, 4);
-    speed_row(n, sheet_w(), target, 1000, ROOM, speed, want, &P7)
+    speed_row(out, n, sheet_w(), target, 1000, ROOM, speed, want, &P7)
 }
 
 // The speeds of W and of case P2, whose total is no multiple of 1,000.
-fn rows_of_speeds(mut n: u64) -> u64 {
+fn rows_of_speeds(out: Stdout, mut n: u64) -> io::Result<u64> {
     let shared = a_and_b(SHARED_CODE);
-    io::write_all(STDOUT_FILENO, b"W, target 1");
-    n = speed_of_w(n, 1, 7, 429, 2640);
-    io::write_all(STDOUT_FILENO, b"W, target 42");
-    n = speed_of_w(n, 42, 7, 429, 2640);
-    io::write_all(STDOUT_FILENO, b"W, target 43");
-    n = speed_of_w(n, 43, 3, 2640, 10000);
-    io::write_all(STDOUT_FILENO, b"W, target 264");
-    n = speed_of_w(n, 264, 3, 2640, 10000);
-    io::write_all(STDOUT_FILENO, b"W, target 265");
-    n = speed_of_w(n, 265, 0, 10000, 10000);
-    io::write_all(STDOUT_FILENO, b"W, target 1,000");
-    n = speed_of_w(n, 1000, 0, 10000, 10000);
-    io::write_all(STDOUT_FILENO, b"case P2, target 750");
+    print!(out; "W, target 1")?;
+    n = speed_of_w(out, n, 1, 7, 429, 2640)?;
+    print!(out; "W, target 42")?;
+    n = speed_of_w(out, n, 42, 7, 429, 2640)?;
+    print!(out; "W, target 43")?;
+    n = speed_of_w(out, n, 43, 3, 2640, 10000)?;
+    print!(out; "W, target 264")?;
+    n = speed_of_w(out, n, 264, 3, 2640, 10000)?;
+    print!(out; "W, target 265")?;
+    n = speed_of_w(out, n, 265, 0, 10000, 10000)?;
+    print!(out; "W, target 1,000")?;
+    n = speed_of_w(out, n, 1000, 0, 10000, 10000)?;
+    print!(out; "case P2, target 750")?;
     n = speed_row(
+        out,
         n,
         shared,
         750,
@@ -741,9 +830,10 @@ fn rows_of_speeds(mut n: u64) -> u64 {
         3,
         accepted(12, 9, 10, 4, 4),
         &P2,
-    );
-    io::write_all(STDOUT_FILENO, b"case P2, target 751");
+    )?;
+    print!(out; "case P2, target 751")?;
     speed_row(
+        out,
         n,
         shared,
         751,
@@ -756,33 +846,27 @@ fn rows_of_speeds(mut n: u64) -> u64 {
 }
 
 // The order of refusals: 11, 12, 16, then 13 and 14.
-fn rows_of_refused_speeds(mut n: u64) -> u64 {
+fn rows_of_refused_speeds(out: Stdout, mut n: u64) -> io::Result<u64> {
     let shared = a_and_b(SHARED_CODE);
     let five = d_with(5);
-    io::write_all(
-        STDOUT_FILENO,
-        b"structure 8 0 1, target 0, buffer 16,383 bytes",
-    );
-    n = no_speed_row(n, a_and_b_as(0x80, 0x10), 0, 1000, ROOM - 1, 11);
-    io::write_all(STDOUT_FILENO, b"target 0, buffer 16,383 bytes");
-    n = no_speed_row(n, shared, 0, 1000, ROOM - 1, 12);
-    io::write_all(STDOUT_FILENO, b"target 0");
-    n = no_speed_row(n, shared, 0, 1000, ROOM, 16);
-    io::write_all(STDOUT_FILENO, b"target 1,001, allowance 3");
-    n = no_speed_row(n, shared, 1001, 3, ROOM, 16);
-    io::write_all(STDOUT_FILENO, b"target 1,000, allowance 3");
-    n = no_speed_row(n, shared, 1000, 3, ROOM, 13);
-    io::write_all(
-        STDOUT_FILENO,
-        b"D1, D2, D3 with 5, target 1,001, allowance 384",
-    );
-    n = no_speed_row(n, five, 1001, 384, ROOM, 16);
-    io::write_all(STDOUT_FILENO, b"D1, D2, D3 with 5, target 1, allowance 384");
-    no_speed_row(n, five, 1, 384, ROOM, 14)
+    print!(out; "structure 8 0 1, target 0, buffer 16,383 bytes")?;
+    n = no_speed_row(out, n, a_and_b_as(0x80, 0x10), 0, 1000, ROOM - 1, 11)?;
+    print!(out; "target 0, buffer 16,383 bytes")?;
+    n = no_speed_row(out, n, shared, 0, 1000, ROOM - 1, 12)?;
+    print!(out; "target 0")?;
+    n = no_speed_row(out, n, shared, 0, 1000, ROOM, 16)?;
+    print!(out; "target 1,001, allowance 3")?;
+    n = no_speed_row(out, n, shared, 1001, 3, ROOM, 16)?;
+    print!(out; "target 1,000, allowance 3")?;
+    n = no_speed_row(out, n, shared, 1000, 3, ROOM, 13)?;
+    print!(out; "D1, D2, D3 with 5, target 1,001, allowance 384")?;
+    n = no_speed_row(out, n, five, 1001, 384, ROOM, 16)?;
+    print!(out; "D1, D2, D3 with 5, target 1, allowance 384")?;
+    no_speed_row(out, n, five, 1, 384, ROOM, 14)
 }
 
 // Sets of demands, in no order and with equal ones.
-fn rows_of_sets(mut n: u64) -> u64 {
+fn rows_of_sets(out: Stdout, mut n: u64) -> io::Result<u64> {
     let w = SheetRun {
         number: 0,
         total: 10000,
@@ -795,8 +879,9 @@ fn rows_of_sets(mut n: u64) -> u64 {
         pairs: 4,
         intervals: 4,
     };
-    io::write_all(STDOUT_FILENO, b"W, demands 7, 3, 0, 7");
+    print!(out; "W, demands 7, 3, 0, 7")?;
     n = set_row(
+        out,
         n,
         sheet_w(),
         &[7, 3, 0, 7],
@@ -806,9 +891,10 @@ fn rows_of_sets(mut n: u64) -> u64 {
         w,
         [429, 2640, 2640, 10000, 10000, 10000, 429, 2640, ONES],
         &P7,
-    );
-    io::write_all(STDOUT_FILENO, b"W, demand 11, 16 bytes for shares");
+    )?;
+    print!(out; "W, demand 11, 16 bytes for shares")?;
     n = set_row(
+        out,
         n,
         sheet_w(),
         &[11],
@@ -818,9 +904,10 @@ fn rows_of_sets(mut n: u64) -> u64 {
         w,
         [0, 0, ONES, ONES, ONES, ONES, ONES, ONES, ONES],
         &P7,
-    );
-    io::write_all(STDOUT_FILENO, b"case P2, demands 8, 7, 3");
+    )?;
+    print!(out; "case P2, demands 8, 7, 3")?;
     set_row(
+        out,
         n,
         a_and_b(SHARED_CODE),
         &[8, 7, 3],
@@ -834,15 +921,13 @@ fn rows_of_sets(mut n: u64) -> u64 {
 }
 
 // The order of refusals: 11, 12, 17, 18, then 13 and 14.
-fn rows_of_refused_sets(mut n: u64) -> u64 {
+fn rows_of_refused_sets(out: Stdout, mut n: u64) -> io::Result<u64> {
     let shared = a_and_b(SHARED_CODE);
     let five = d_with(5);
     let seventeen = [3; 17];
-    io::write_all(
-        STDOUT_FILENO,
-        b"structure 8 0 1, no demand, buffer 16,383 bytes",
-    );
+    print!(out; "structure 8 0 1, no demand, buffer 16,383 bytes")?;
     n = no_set_row(
+        out,
         n,
         a_and_b_as(0x80, 0x10),
         &[],
@@ -850,42 +935,33 @@ fn rows_of_refused_sets(mut n: u64) -> u64 {
         ROOM - 1,
         SHARES_ROOM,
         11,
-    );
-    io::write_all(STDOUT_FILENO, b"no demand, buffer 16,383 bytes");
-    n = no_set_row(n, shared, &[], 1000, ROOM - 1, SHARES_ROOM, 12);
-    io::write_all(STDOUT_FILENO, b"no demand");
-    n = no_set_row(n, shared, &[], 1000, ROOM, SHARES_ROOM, 17);
-    io::write_all(
-        STDOUT_FILENO,
-        b"17 demands, 72 bytes for shares, allowance 3",
-    );
-    n = no_set_row(n, shared, &seventeen, 3, ROOM, SHARES_ROOM, 17);
-    io::write_all(
-        STDOUT_FILENO,
-        b"2 demands, 31 bytes for shares, allowance 3",
-    );
-    n = no_set_row(n, shared, &[3, 7], 3, ROOM, 31, 18);
-    io::write_all(
-        STDOUT_FILENO,
-        b"2 demands, 32 bytes for shares, allowance 3",
-    );
-    n = no_set_row(n, shared, &[3, 7], 3, ROOM, 32, 13);
-    io::write_all(
-        STDOUT_FILENO,
-        b"D1, D2, D3 with 5, 1 demand, 15 bytes for shares, allowance 384",
-    );
-    n = no_set_row(n, five, &[0], 384, ROOM, 15, 18);
-    io::write_all(STDOUT_FILENO, b"D1, D2, D3 with 5, 1 demand, allowance 384");
-    no_set_row(n, five, &[0], 384, ROOM, SHARES_ROOM, 14)
+    )?;
+    print!(out; "no demand, buffer 16,383 bytes")?;
+    n = no_set_row(out, n, shared, &[], 1000, ROOM - 1, SHARES_ROOM, 12)?;
+    print!(out; "no demand")?;
+    n = no_set_row(out, n, shared, &[], 1000, ROOM, SHARES_ROOM, 17)?;
+    print!(out; "17 demands, 72 bytes for shares, allowance 3")?;
+    n = no_set_row(out, n, shared, &seventeen, 3, ROOM, SHARES_ROOM, 17)?;
+    print!(out; "2 demands, 31 bytes for shares, allowance 3")?;
+    n = no_set_row(out, n, shared, &[3, 7], 3, ROOM, 31, 18)?;
+    print!(out; "2 demands, 32 bytes for shares, allowance 3")?;
+    n = no_set_row(out, n, shared, &[3, 7], 3, ROOM, 32, 13)?;
+    print!(out; "D1, D2, D3 with 5, 1 demand, 15 bytes for shares, allowance 384")?;
+    n = no_set_row(out, n, five, &[0], 384, ROOM, 15, 18)?;
+    print!(out; "D1, D2, D3 with 5, 1 demand, allowance 384")?;
+    no_set_row(out, n, five, &[0], 384, ROOM, SHARES_ROOM, 14)
 }
 
-fn main() {
-    let n = rows_of_limits(rows_of_w_and_refusals(rows_of_a_and_b(0)));
-    let k = rows_of_ceiling(rows_of_rests(n));
-    let m = rows_of_refused_speeds(rows_of_speeds(k));
-    print(
-        b"rows that disagree: ",
-        rows_of_refused_sets(rows_of_sets(m)),
-    );
-    io::write_all(STDOUT_FILENO, b"\n");
+fn main(rt: HostRuntime) -> io::Result<()> {
+    let out = rt.stdout();
+    let mut n = rows_of_a_and_b(out, 0)?;
+    n = rows_of_w_and_refusals(out, n)?;
+    n = rows_of_limits(out, n)?;
+    n = rows_of_rests(out, n)?;
+    n = rows_of_ceiling(out, n)?;
+    n = rows_of_speeds(out, n)?;
+    n = rows_of_refused_speeds(out, n)?;
+    n = rows_of_sets(out, n)?;
+    n = rows_of_refused_sets(out, n)?;
+    println!(out; "rows that disagree: {n}")
 }
