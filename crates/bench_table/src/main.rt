@@ -7,12 +7,12 @@
 ghost use Rattle.std.specs.Prelude.{◌≡◌, ◌+◌, ◌*◌, ◌<◌, ◌≤◌, length, take};
 ghost use Rattle.theory.specs.Limits.{most_intervals, store_bytes};
 ghost use Rattle.plan.specs.Plan.{series_code, shared_code};
-ghost use Rattle.evaluate.specs.Answer.{answer, refusal as Answer·refusal};
+ghost use Rattle.evaluate.specs.Answer.{answer, refusal as answer_refusal};
 ghost use Rattle.evaluate.specs.Store.{store_after};
 ghost use Rattle.evaluate.specs.Speed.{speed_answer, speed_store_after};
 ghost use Rattle.evaluate.specs.Set.{set_answer, set_store_after, shares_after};
-ghost use Rattle.evaluate.specs.SheetRun.{refused_run as SheetRun·refused};
-ghost use Rattle.evaluate.specs.Bench.{accepted as Bench·accepted};
+ghost use Rattle.evaluate.specs.SheetRun.{refused_run as sheet_run_refused};
+ghost use Rattle.evaluate.specs.Bench.{accepted as bench_accepted};
 ghost use Rattle.bench_table.specs.Rows.{component_of, single_speeds, component_a, component_b, W0, W1, D1, D2, D3, chain, sheet_of, restructured};
 ghost use Rattle.bench_table.specs.Rows.{bytes_of, shares_held, answers_differ, runs_differ, shares_differ, record_differs, list_differs, speeds_down, speeds_to_ceiling};
 
@@ -127,7 +127,7 @@ fn d_with(count: u16) -> Sheet
 }
 
 fn accepted(total: u64, belief: u64, plausibility: u64, pairs: u64, intervals: u64) -> Answer
-    ensures { result ≡ Bench·accepted total belief plausibility pairs intervals }
+    ensures { result ≡ bench_accepted total belief plausibility pairs intervals }
 {
     Answer {
         number: 0,
@@ -456,7 +456,7 @@ fn shared_row(
 }
 
 fn refusal(number: u8) -> Answer
-    ensures { result ≡ Answer·refusal number }
+    ensures { result ≡ answer_refusal number }
 {
     Answer {
         number: number,
@@ -499,7 +499,7 @@ fn no_speed_row(
 }
 
 fn refused_run(number: u8) -> SheetRun
-    ensures { result ≡ SheetRun·refused number }
+    ensures { result ≡ sheet_run_refused number }
 {
     SheetRun {
         number: number,

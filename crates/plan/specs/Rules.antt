@@ -53,7 +53,7 @@ abbrev pub bad_entry : ℕ → Entry → Bool
 bad_entry n (component i) = leb most_components i || leb n i
 bad_entry n (join op) = false
 
--- The same of a code in document 01's own words, and that they agree (proved: `Entries.bad-code`).
+-- The same of a code in document 01's own words, and that they agree (proved: `Entries.bad_code_is`).
 abbrev pub bad_code : ℕ → ℕ → Bool
 bad_code n code = eqb code 6 || eqb code 7 || ltb 10 code || ltb code 6 && leb n code
 

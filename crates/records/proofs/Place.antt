@@ -1,5 +1,5 @@
 -- The place of an interval in a list: what a search goes by, and what an insertion does there. The one comparison of keys is the order of
--- intervals: a change of the order changes `key-lt` and what it gives. Assumes nothing.
+-- intervals: a change of the order changes `key_lt` and what it gives. Assumes nothing.
 use mathlib.Core.Path.{◌≡◌, refl, sym, ap, ◌∙◌}
 use mathlib.Core.Bool.{Bool, true, false, cond}
 use mathlib.Core.Logic.{⊎_elim, inl, inr}
