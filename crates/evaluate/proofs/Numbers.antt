@@ -16,7 +16,7 @@ use Rattle.theory.proofs.Method.{evaluate-refused}
 use Rattle.reading.specs.declared.Reading.{Reading}
 use Rattle.plan.specs.Tests.{Test, test, first_broken, Unbroken, outside, any_of}
 use Rattle.reading.specs.Reading.{sheet_tests, read_of}
-use Rattle.reading.proofs.Decided.{read_number}
+use Rattle.reading.proofs.Decided.{read_number_is}
 use Rattle.plan.proofs.Numbers.{no_number, number-never, first_found, first-none, first_then}
 use Rattle.run.specs.Run.{needed}
 use Rattle.evaluate.specs.Answer.{plan_of, components, structure, sheet_outcomes, call_tests, tested_of, evaluated, tested_first, ending, answer_with, answer}
@@ -31,10 +31,10 @@ module _ (s : List ℕ) (room : ℕ) where
   twelve = test 12 (ltb room (needed (plan_of s))) ∷ []
 
   number_unread : ((read_of s).number ≡ 0 → ⊥) → first_broken (call_tests s room) ≡ (read_of s).number
-  number_unread h = first_found (sheet_tests s) twelve (λ z. h (read_number s ∙ z)) ∙ sym (read_number s)
+  number_unread h = first_found (sheet_tests s) twelve (λ z. h (read_number_is s ∙ z)) ∙ sym (read_number_is s)
 
   number_read : (read_of s).number ≡ 0 → first_broken (call_tests s room) ≡ cond (ltb room (needed (plan_of s))) 12 0
-  number_read z = first-none twelve (no_number 11 (sheet_tests s) refl (sym (read_number s) ∙ z))
+  number_read z = first-none twelve (no_number 11 (sheet_tests s) refl (sym (read_number_is s) ∙ z))
 
   -- What is known of a sheet and a store where no test is broken.
   pub tests_say : first_broken (call_tests s room) ≡ 0 → ((read_of s).number ≡ 0) × (needed (plan_of s) ≤ room)

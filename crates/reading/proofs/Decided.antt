@@ -32,20 +32,20 @@ refuses zero p h = absurd (h refl)
 refuses (suc k) p h = refl
 
 module _ (s : List ℕ) where
-  pub read_number : (read_of s).number ≡ first_broken (sheet_tests s)
+  pub read_number_is : (read_of s).number ≡ first_broken (sheet_tests s)
   unfolding read_of
-  read_number = reading-number (first_broken (sheet_tests s)) (plan_in s)
+  read_number_is = reading-number (first_broken (sheet_tests s)) (plan_in s)
 
   pub read-accepted : (read_of s).number ≡ 0 → read_of s ≡ record { number = 0; plan = plan_in s }
   unfolding read_of
-  read-accepted e = rw (sym read_number ∙ e)
+  read-accepted e = rw (sym read_number_is ∙ e)
 
   pub reads-refused : (k : ℕ) → (k ≡ 0 → ⊥) → k ≡ first_broken (sheet_tests s) → record { number = k; plan = zero_plan } ≡ read_of s
   unfolding read_of
   reads-refused k h e = sym (refuses k (plan_in s) h) ∙ ap (λ x. reading x (plan_in s)) e
 
   pub read-refused : (k : ℕ) → 0 < k → (read_of s).number ≡ k → read_of s ≡ record { number = k; plan = zero_plan }
-  read-refused k h e = sym (reads-refused k (λ z. omega arith) (sym e ∙ read_number))
+  read-refused k h e = sym (reads-refused k (λ z. omega arith) (sym e ∙ read_number_is))
 
 -- What an accepted sheet keeps, rule by rule.
 pub record Sound (s : List ℕ) : Type 0 where
@@ -62,7 +62,7 @@ pub record Sound (s : List ℕ) : Type 0 where
 
 pub sound : (s : List ℕ) → (read_of s).number ≡ 0 → Sound s
 unfolding bad_layout bad_zeros
-sound s e = go (no_number 11 (sheet_tests s) refl (sym (read_number s) ∙ e))
+sound s e = go (no_number 11 (sheet_tests s) refl (sym (read_number_is s) ∙ e))
   where
     go : Every Unbroken (sheet_tests s) → Sound s
     go (more e₁ (more e₂ (more e₃ (more e₄ (more e₅ es))))) =
@@ -102,9 +102,9 @@ blocks_keep s a i l = go a.others
 pub decided : (s : List ℕ) → Decided s
 decided s =
     record {
-      accepted = rw (read_number s) (accepted_by 11 (sheet_tests s) refl);
+      accepted = rw (read_number_is s) (accepted_by 11 (sheet_tests s) refl);
       plan_is = λ e. ap (λ (r : Reading). r.plan) (read-accepted s e);
       blocks_keep = λ e. blocks_keep s (sound s e);
-      refused_by = λ k h. rw (read_number s) (refused_by (sheet_tests s) k h);
+      refused_by = λ k h. rw (read_number_is s) (refused_by (sheet_tests s) k h);
       zeros = λ k h e. ap (λ (r : Reading). r.plan) (read-refused s k h e);
     }

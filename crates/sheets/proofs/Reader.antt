@@ -17,7 +17,7 @@ use Rattle.plan.specs.Tests.{test, Unbroken, First}
 use Rattle.plan.proofs.Numbers.{accepted_by, refused_by, first_then}
 use Rattle.reading.specs.Reading.{sheet_tests, read_of}
 use Rattle.reading.specs.declared.Reading.{Reading}
-use Rattle.reading.proofs.Decided.{read_number as number-read, read-refused}
+use Rattle.reading.proofs.Decided.{read_number_is, read-refused}
 use Rattle.writing.specs.Writing.{written_of, bytes_after}
 use Rattle.writing.specs.declared.Written.{Written}
 use Rattle.writing.proofs.Theorems.{written_is_read, read_is_written}
@@ -35,12 +35,12 @@ module _ (sheet buffer : List ℕ) where
       → (read_number sheet buffer ≡ cond (eqb (read_of sheet).number 0) 12 (read_of sheet).number) × (plan_after sheet buffer ≡ buffer)
   unfolding read_number plan_after
   buffer_short h =
-      rw (lt-ltb (length buffer) plan_bytes h, number-read sheet) (sym (first_then 11 (sheet_tests sheet) (test 12 true ∷ []) refl), refl)
+      rw (lt-ltb (length buffer) plan_bytes h, read_number_is sheet) (sym (first_then 11 (sheet_tests sheet) (test 12 true ∷ []) refl), refl)
 
   pub buffer_long : plan_bytes ≤ length buffer
       → (read_number sheet buffer ≡ (read_of sheet).number) × (plan_after sheet buffer ≡ encode_plan (read_of sheet).plan ++ drop plan_bytes buffer)
   unfolding read_number plan_after
-  buffer_long h = rw (le-ltb (length buffer) plan_bytes h) (sym (number-read sheet), refl)
+  buffer_long h = rw (le-ltb (length buffer) plan_bytes h) (sym (read_number_is sheet), refl)
 
   sheet_accepted : (read_number sheet buffer ≡ 0) ↔ Every Unbroken (read_call_tests sheet buffer)
   unfolding read_number
