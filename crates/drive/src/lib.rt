@@ -1,4 +1,4 @@
-// What makers link: the calls, the writer and the reader on numbers and byte slices, and nothing else. The header host/drive.h is the
+// The calls, the writer and the reader for C hosts, on numbers and byte slices: what drive_c exports. The header host/drive.h is the
 // manual.
 #![tactic(auto)]
 
@@ -30,8 +30,7 @@ fn put_answer(a: Answer, buffer: &mut [u8])
 }
 
 // Returns the number. The answer goes to the front of `answer`, the drive's list to the front of `list`.
-#[unsafe(no_mangle)]
-pub extern "C" fn drive_bounds(
+pub fn drive_bounds(
     sheet: &[u8],
     demand: u32,
     allowance: u32,
@@ -62,8 +61,7 @@ fn put_speed_answer(p: SpeedAnswer, buffer: &mut [u8])
 }
 
 // Returns the number. The answer and its speed go to the front of `answer`, the drive's list to the front of `list`.
-#[unsafe(no_mangle)]
-pub extern "C" fn drive_speed(
+pub fn drive_speed(
     sheet: &[u8],
     target: u32,
     allowance: u32,
@@ -95,8 +93,7 @@ fn put_set_answer(r: SheetRun, buffer: &mut [u8])
 
 // Returns the number. The shares at each demand go to the front of `shares`, the other answers to the front of `answer`, the drive's list to
 // the front of `list`.
-#[unsafe(no_mangle)]
-pub extern "C" fn drive_set(
+pub fn drive_set(
     sheet: &[u8],
     demands: &[u8],
     allowance: u32,
@@ -128,8 +125,7 @@ pub extern "C" fn drive_set(
 }
 
 // Returns the number. The sheet of the plan goes to the front of `sheet`, its length to the front of `answer`.
-#[unsafe(no_mangle)]
-pub extern "C" fn drive_write_sheet(plan: &[u8], sheet: &mut [u8], answer: &mut [u8]) -> u32
+pub fn drive_write_sheet(plan: &[u8], sheet: &mut [u8], answer: &mut [u8]) -> u32
     ensures value { result ≡ write_number plan.now sheet.old answer.old }
     ensures sheet_after { sheet.new ≡ sheet_after plan.now sheet.old answer.old }
     ensures answer_after { answer.new ≡ length_after plan.now sheet.old answer.old }
@@ -138,8 +134,7 @@ pub extern "C" fn drive_write_sheet(plan: &[u8], sheet: &mut [u8], answer: &mut 
 }
 
 // Returns the number. The plan of the sheet goes to the front of `plan`.
-#[unsafe(no_mangle)]
-pub extern "C" fn drive_read_sheet(sheet: &[u8], plan: &mut [u8]) -> u32
+pub fn drive_read_sheet(sheet: &[u8], plan: &mut [u8]) -> u32
     ensures value { result ≡ read_number sheet.now plan.old }
     ensures plan_after { plan.new ≡ plan_after sheet.now plan.old }
 {
