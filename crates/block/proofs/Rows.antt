@@ -8,7 +8,7 @@ use native.Mathlib.Omega.{arith}
 use lib.ListN.{length, take, get_or, set, length-set, length-replicate}
 use lib.Seq.{take-suc-set, get_or-set_same, get_or-set_other}
 use Rattle.theory.specs.Sums.{count_from, Every}
-use Rattle.theory.proofs.Sums.{map-count}
+use Rattle.theory.proofs.Sums.{map_count}
 use Rattle.theory.proofs.Every.{every_replicate, every_set}
 use Rattle.block.specs.Rows.{row}
 
@@ -29,10 +29,10 @@ module _ {A : Type 0} (d : A) (m : ℕ) where
   row_next f xs k x e h = rw (add-one, e, h)
 
   -- What holds of d and of every f i holds of all places.
-  pub row-every : {P : A → Type 0} (f : ℕ → A) (k : ℕ) → P d → ((i : ℕ) → P (f i)) → Every P (row d m f k)
+  pub row_every : {P : A → Type 0} (f : ℕ → A) (k : ℕ) → P d → ((i : ℕ) → P (f i)) → Every P (row d m f k)
   unfolding row
-  row-every f zero h g = every_replicate d m h
-  row-every f (suc k) h g = every_set (row-every f k h g) k (g k)
+  row_every f zero h g = every_replicate d m h
+  row_every f (suc k) h g = every_set (row_every f k h g) k (g k)
 
   -- A used place.
   pub row_used : (e : A) (f : ℕ → A) (k i : ℕ) → i < k → k ≤ m → get_or (row d m f k) i e ≡ f i
@@ -50,4 +50,4 @@ module _ {A : Type 0} (d : A) (m : ℕ) where
   unfolding row
   row_front f zero h = refl
   row_front f (suc k) h =
-      take-suc-set (row d m f k) k (f k) (rw (length-row f k) h) ∙ (ap (λ (l : List A). l ++ (f k ∷ [])) (row_front f k (omega arith)) ∙ sym (map-count f 0 k k (omega arith)))
+      take-suc-set (row d m f k) k (f k) (rw (length-row f k) h) ∙ (ap (λ (l : List A). l ++ (f k ∷ [])) (row_front f k (omega arith)) ∙ sym (map_count f 0 k k (omega arith)))

@@ -13,33 +13,33 @@ use Rattle.evaluate.specs.declared.Answer.{Answer}
 use Rattle.evaluate.specs.Answer.{call_tests, answer}
 use Rattle.evaluate.specs.Store.{store_after}
 use Rattle.evaluate.specs.Demands.{by_test}
-use Rattle.plan.proofs.Numbers.{first_in_front, first-behind}
-use Rattle.evaluate.proofs.Demands.{demand_1, Fits64, answer-fits}
+use Rattle.plan.proofs.Numbers.{first_in_front, first_behind}
+use Rattle.evaluate.proofs.Demands.{demand_1, Fits64, answer_fits}
 use Rattle.drive.specs.Call.{answer_bytes, encode_answer, number_returned, list_after, answer_after, TooShort, AnswersRead, Call}
 
 -- ---- the bytes of an answer
 
-pub length-answer : (a : Answer) → length (encode_answer a) ≡ answer_bytes
+pub length_answer : (a : Answer) → length (encode_answer a) ≡ answer_bytes
 unfolding encode_answer
-length-answer a = simp (length-append, length-big_endian)
+length_answer a = simp (length-append, length-big_endian)
 
 -- Its numbers are read back.
-pub answers-read : {allowance : ℕ} (a : Answer) → Fits64 allowance a → (rest : List ℕ) {buffer : List ℕ} → buffer ≡ encode_answer a ++ rest → AnswersRead allowance a buffer
+pub answers_read : {allowance : ℕ} (a : Answer) → Fits64 allowance a → (rest : List ℕ) {buffer : List ℕ} → buffer ≡ encode_answer a ++ rest → AnswersRead allowance a buffer
 unfolding encode_answer
-answers-read a fits rest {buffer} e =
+answers_read a fits rest {buffer} e =
     let b5 : List ℕ = big_endian 8 a.intervals ++ rest in
     let b4 : List ℕ = big_endian 8 a.pairs ++ b5 in
     let b3 : List ℕ = big_endian 8 a.plausibility ++ b4 in
     let b2 : List ℕ = big_endian 8 a.belief ++ b3 in
     let all : buffer ≡ big_endian 8 a.total ++ b2 = e ∙ simp append_assoc in
     record {
-      total-read = rw all (read_front 8 a.total b2 fits.run.total);
-      belief-read = rw all (read_behind 8 a.total b2 0 8 ∙ read_front 8 a.belief b3 fits.belief);
-      plausibility-read = rw all (read_behind 8 a.total b2 8 8 ∙ (read_behind 8 a.belief b3 0 8 ∙ read_front 8 a.plausibility b4 fits.plausibility));
-      pairs-read = λ k.
+      total_read = rw all (read_front 8 a.total b2 fits.run.total);
+      belief_read = rw all (read_behind 8 a.total b2 0 8 ∙ read_front 8 a.belief b3 fits.belief);
+      plausibility_read = rw all (read_behind 8 a.total b2 8 8 ∙ (read_behind 8 a.belief b3 0 8 ∙ read_front 8 a.plausibility b4 fits.plausibility));
+      pairs_read = λ k.
           rw all (read_behind 8 a.total b2 16 8 ∙ (read_behind 8 a.belief b3 8 8 ∙ (read_behind 8 a.plausibility b4 0 8
           ∙ read_front 8 a.pairs b5 (fits.run.pairs k))));
-      intervals-read =
+      intervals_read =
           rw all (read_behind 8 a.total b2 24 8 ∙ (read_behind 8 a.belief b3 16 8 ∙ (read_behind 8 a.plausibility b4 8 8
           ∙ (read_behind 8 a.pairs b5 0 8 ∙ read_front 8 a.intervals rest fits.run.intervals))));
     }
@@ -52,12 +52,12 @@ nothing [] e = refl
 nothing (x ∷ l) e = absurd (omega arith)
 
 -- The number is that of the first test that is broken, of a call without a list buffer.
-pub short-call : {sheet list list_then buffer buffer_then : List ℕ} {number : ℕ} → ((k : ℕ) → 0 < k → First (call_tests sheet 0) k → number ≡ k)
+pub short_call : {sheet list list_then buffer buffer_then : List ℕ} {number : ℕ} → ((k : ℕ) → 0 < k → First (call_tests sheet 0) k → number ≡ k)
     → list_then ≡ list → buffer_then ≡ buffer → TooShort sheet number list list_then buffer buffer_then
-short-call is l b = record {
+short_call is l b = record {
   answer_unchanged = b;
   list_unchanged = l;
-  twelve = λ u. is 12 (omega arith) (first-behind u (here refl refl));
+  twelve = λ u. is 12 (omega arith) (first_behind u (here refl refl));
   one_to_eleven = λ k h f. is k h (first_in_front f _);
 }
 
@@ -70,24 +70,24 @@ module _ (sheet : List ℕ) (demand allowance : ℕ) (list buffer : List ℕ) wh
   unfolding number_returned list_after answer_after
   too_short h = rw (lt-ltb (length buffer) answer_bytes h, number_returned) (refl, refl, refl)
 
-  pub long-enough : answer_bytes ≤ length buffer → (number_returned sheet demand allowance list buffer ≡ (answer sheet demand allowance (length list)).number)
+  pub long_enough : answer_bytes ≤ length buffer → (number_returned sheet demand allowance list buffer ≡ (answer sheet demand allowance (length list)).number)
       × (list_after sheet allowance list buffer ≡ store_after sheet allowance list)
       × (answer_after sheet demand allowance list buffer ≡ encode_answer (answer sheet demand allowance (length list)) ++ drop answer_bytes buffer)
   unfolding number_returned list_after answer_after
-  long-enough h = rw (le-ltb (length buffer) answer_bytes h, number_returned) (refl, refl, refl)
+  long_enough h = rw (le-ltb (length buffer) answer_bytes h, number_returned) (refl, refl, refl)
 
   pub call : Call sheet demand allowance list buffer
   call = record {
     too_short = λ h.
         let way = too_short h in
-        short-call (λ k l f. way.0 ∙ ((demand_1 sheet demand allowance []).refused_by k l).1 (by_test f)) way.1 way.2;
-    long-enough = λ h.
-        let way = long-enough h in
+        short_call (λ k l f. way.0 ∙ ((demand_1 sheet demand allowance []).refused_by k l).1 (by_test f)) way.1 way.2;
+    long_enough = λ h.
+        let way = long_enough h in
         let a : Answer = answer sheet demand allowance (length list) in
         record {
           number_is = way.0;
           list_is = way.1;
-          answers = answers-read a (answer-fits sheet demand allowance list) (drop answer_bytes buffer) way.2;
-          later-kept = ap (drop answer_bytes) way.2 ∙ drop_at (encode_answer a) (drop answer_bytes buffer) answer_bytes (length-answer a);
+          answers = answers_read a (answer_fits sheet demand allowance list) (drop answer_bytes buffer) way.2;
+          later_kept = ap (drop answer_bytes) way.2 ∙ drop_at (encode_answer a) (drop answer_bytes buffer) answer_bytes (length_answer a);
         };
   }

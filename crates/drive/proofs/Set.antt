@@ -11,14 +11,14 @@ use Rattle.plan.proofs.Numbers.{first_in_front}
 use Rattle.evaluate.specs.declared.SheetRun.{SheetRun}
 use Rattle.evaluate.specs.Set.{set_answer, set_store_after, shares_after}
 use Rattle.evaluate.specs.Demands.{by_test}
-use Rattle.evaluate.proofs.SetMet.{set-met, set-answer-fits}
+use Rattle.evaluate.proofs.SetMet.{set_met, set_answer_fits}
 use Rattle.wire.specs.Demands.{demands_in}
 use Rattle.drive.specs.Set.{set_answer_bytes, encode_set_answer, set_number, set_list_after, set_shares_after, set_answer_after, SetCall}
-use Rattle.drive.proofs.Call.{short-call}
+use Rattle.drive.proofs.Call.{short_call}
 
-length-set-answer : (r : SheetRun) → length (encode_set_answer r) ≡ set_answer_bytes
+length_set_answer : (r : SheetRun) → length (encode_set_answer r) ≡ set_answer_bytes
 unfolding encode_set_answer
-length-set-answer r = simp (length-append, length-big_endian)
+length_set_answer r = simp (length-append, length-big_endian)
 
 module _ (sheet demands : List ℕ) (allowance : ℕ) (list shares buffer : List ℕ) where
   -- What the four definitions come to, by whether the answer buffer is too short.
@@ -28,25 +28,25 @@ module _ (sheet demands : List ℕ) (allowance : ℕ) (list shares buffer : List
   unfolding set_number set_list_after set_shares_after set_answer_after
   too_short h = rw (lt-ltb (length buffer) set_answer_bytes h, set_number) (refl, refl, refl, refl)
 
-  pub long-enough : set_answer_bytes ≤ length buffer
+  pub long_enough : set_answer_bytes ≤ length buffer
       → (set_number sheet demands allowance list shares buffer ≡ (set_answer sheet (demands_in demands) allowance (length list) (length shares)).number)
       × (set_list_after sheet demands allowance list shares buffer ≡ set_store_after sheet (demands_in demands) allowance list (length shares))
       × (set_shares_after sheet demands allowance list shares buffer ≡ shares_after sheet (demands_in demands) allowance (length list) shares)
       × (set_answer_after sheet demands allowance list shares buffer ≡ encode_set_answer (set_answer sheet (demands_in demands) allowance (length list) (length shares)) ++ drop set_answer_bytes buffer)
   unfolding set_number set_list_after set_shares_after set_answer_after
-  long-enough h = rw (le-ltb (length buffer) set_answer_bytes h, set_number) (refl, refl, refl, refl)
+  long_enough h = rw (le-ltb (length buffer) set_answer_bytes h, set_number) (refl, refl, refl, refl)
 
-  pub set-call : SetCall sheet demands allowance list shares buffer
+  pub set_call : SetCall sheet demands allowance list shares buffer
   unfolding encode_set_answer
-  set-call = record {
+  set_call = record {
     too_short = λ h.
         let way = too_short h in
-        let met = set-met sheet (demands_in demands) allowance [] [] in
-        (short-call (λ k l f. way.0 ∙ (met.first.refused_by k l).1 (by_test (first_in_front f _))) way.1 way.3, way.2);
-    long-enough = λ h.
-        let way = long-enough h in
+        let met = set_met sheet (demands_in demands) allowance [] [] in
+        (short_call (λ k l f. way.0 ∙ (met.first.refused_by k l).1 (by_test (first_in_front f _))) way.1 way.3, way.2);
+    long_enough = λ h.
+        let way = long_enough h in
         let r : SheetRun = set_answer sheet (demands_in demands) allowance (length list) (length shares) in
-        let fits = set-answer-fits sheet (demands_in demands) allowance list shares in
+        let fits = set_answer_fits sheet (demands_in demands) allowance list shares in
         let behind : List ℕ = drop set_answer_bytes buffer in
         let b3 : List ℕ = big_endian 8 r.intervals ++ behind in
         let b2 : List ℕ = big_endian 8 r.pairs ++ b3 in
@@ -55,10 +55,10 @@ module _ (sheet demands : List ℕ) (allowance : ℕ) (list shares buffer : List
           number_is = way.0;
           list_is = way.1;
           shares_are = way.2;
-          total-read = rw all (read_front 8 r.total b2 fits.total);
-          pairs-read = λ k. rw all (read_behind 8 r.total b2 0 8 ∙ read_front 8 r.pairs b3 (fits.pairs k));
-          intervals-read =
+          total_read = rw all (read_front 8 r.total b2 fits.total);
+          pairs_read = λ k. rw all (read_behind 8 r.total b2 0 8 ∙ read_front 8 r.pairs b3 (fits.pairs k));
+          intervals_read =
               rw all (read_behind 8 r.total b2 8 8 ∙ (read_behind 8 r.pairs b3 0 8 ∙ read_front 8 r.intervals behind fits.intervals));
-          later-kept = ap (drop set_answer_bytes) way.3 ∙ drop_at (encode_set_answer r) behind set_answer_bytes (length-set-answer r);
+          later_kept = ap (drop set_answer_bytes) way.3 ∙ drop_at (encode_set_answer r) behind set_answer_bytes (length_set_answer r);
         };
   }

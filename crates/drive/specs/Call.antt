@@ -54,11 +54,11 @@ pub record TooShort (sheet : List ℕ) (number : ℕ) (list list_then buffer buf
 
 -- Five answers are read back from the answer buffer. (An allowance is a 32-bit number.)
 pub record AnswersRead (allowance : ℕ) (a : Answer) (buffer : List ℕ) : Type 0 where
-  pub total-read : number_at buffer 0 8 ≡ a.total
-  pub belief-read : number_at buffer 8 8 ≡ a.belief
-  pub plausibility-read : number_at buffer 16 8 ≡ a.plausibility
-  pub pairs-read : allowance < 2 ^ 64 → number_at buffer 24 8 ≡ a.pairs
-  pub intervals-read : number_at buffer 32 8 ≡ a.intervals
+  pub total_read : number_at buffer 0 8 ≡ a.total
+  pub belief_read : number_at buffer 8 8 ≡ a.belief
+  pub plausibility_read : number_at buffer 16 8 ≡ a.plausibility
+  pub pairs_read : allowance < 2 ^ 64 → number_at buffer 24 8 ≡ a.pairs
+  pub intervals_read : number_at buffer 32 8 ≡ a.intervals
 
 -- What that comes to, for every sheet, demand, allowance, list buffer and answer buffer.
 module _ (sheet : List ℕ) (demand allowance : ℕ) (list buffer : List ℕ) where
@@ -79,8 +79,8 @@ module _ (sheet : List ℕ) (demand allowance : ℕ) (list buffer : List ℕ) wh
     pub number_is : number ≡ answered.number
     pub list_is : list_buffer ≡ store_after sheet allowance list
     pub answers : AnswersRead allowance answered answer_buffer
-    pub later-kept : drop answer_bytes answer_buffer ≡ drop answer_bytes buffer
+    pub later_kept : drop answer_bytes answer_buffer ≡ drop answer_bytes buffer
 
   pub record Call : Type 0 where
     pub too_short : length buffer < answer_bytes → TooShort sheet number list list_buffer buffer answer_buffer
-    pub long-enough : answer_bytes ≤ length buffer → LongEnough
+    pub long_enough : answer_bytes ≤ length buffer → LongEnough

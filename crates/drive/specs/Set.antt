@@ -56,11 +56,11 @@ module _ (sheet demands : List ℕ) (allowance : ℕ) (list shares buffer : List
     pub number_is : number ≡ set_answered.number
     pub list_is : list_buffer ≡ set_store_after sheet (demands_in demands) allowance list (length shares)
     pub shares_are : shares_buffer ≡ shares_after sheet (demands_in demands) allowance (length list) shares
-    pub total-read : number_at answer_buffer 0 8 ≡ set_answered.total
-    pub pairs-read : allowance < 2 ^ 64 → number_at answer_buffer 8 8 ≡ set_answered.pairs
-    pub intervals-read : number_at answer_buffer 16 8 ≡ set_answered.intervals
-    pub later-kept : drop set_answer_bytes answer_buffer ≡ drop set_answer_bytes buffer
+    pub total_read : number_at answer_buffer 0 8 ≡ set_answered.total
+    pub pairs_read : allowance < 2 ^ 64 → number_at answer_buffer 8 8 ≡ set_answered.pairs
+    pub intervals_read : number_at answer_buffer 16 8 ≡ set_answered.intervals
+    pub later_kept : drop set_answer_bytes answer_buffer ≡ drop set_answer_bytes buffer
 
   pub record SetCall : Type 0 where
     pub too_short : length buffer < set_answer_bytes → TooShort sheet number list list_buffer buffer answer_buffer × (shares_buffer ≡ shares)
-    pub long-enough : set_answer_bytes ≤ length buffer → LongEnough
+    pub long_enough : set_answer_bytes ≤ length buffer → LongEnough

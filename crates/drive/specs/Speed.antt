@@ -46,8 +46,8 @@ module _ (sheet : List ℕ) (target allowance : ℕ) (list buffer : List ℕ) wh
     pub list_is : list_buffer ≡ speed_store_after sheet target allowance list
     pub answers : AnswersRead allowance speed_answered.answer answer_buffer
     pub speed_read : number_at answer_buffer answer_bytes 8 ≡ speed_answered.speed
-    pub later-kept : drop speed_answer_bytes answer_buffer ≡ drop speed_answer_bytes buffer
+    pub later_kept : drop speed_answer_bytes answer_buffer ≡ drop speed_answer_bytes buffer
 
   pub record SpeedCall : Type 0 where
     pub too_short : length buffer < speed_answer_bytes → TooShort sheet number list list_buffer buffer answer_buffer
-    pub long-enough : speed_answer_bytes ≤ length buffer → LongEnough
+    pub long_enough : speed_answer_bytes ≤ length buffer → LongEnough

@@ -21,31 +21,31 @@ use Rattle.theory.specs.Focal.{Focal, weights, InRange, Positive}
 use Rattle.theory.specs.Choices.{belief, plausibility}
 use Rattle.theory.specs.Lists.{outcomes_of}
 use Rattle.theory.specs.Bounds.{Bounds}
-use Rattle.theory.proofs.Every.{every_map, every-all}
-use Rattle.theory.proofs.Masses.{length-masses, rest-added}
-use Rattle.theory.proofs.Steps.{positive-outcomes_of}
-use Rattle.theory.proofs.Collect.{order-collect, positive-collect, where_le, where_none, share_antitone, weight_at-collect, belief-collect, plausibility-collect}
+use Rattle.theory.proofs.Every.{every_map, every_all}
+use Rattle.theory.proofs.Masses.{length-masses, rest_added}
+use Rattle.theory.proofs.Steps.{positive_outcomes_of}
+use Rattle.theory.proofs.Collect.{order_collect, positive_collect, where_le, where_none, share_antitone, weight_at-collect, belief-collect, plausibility-collect}
 use Rattle.theory.proofs.Totals.{weights_list_of, weights-drive_list, total_le, fits_list_of}
-use Rattle.theory.proofs.Range.{spans-choices}
+use Rattle.theory.proofs.Range.{spans_choices}
 use Rattle.theory.proofs.Bounds.{bounds}
 use Rattle.records.specs.Store.{settled}
-use Rattle.records.proofs.Store.{settled-list}
+use Rattle.records.proofs.Store.{settled_list}
 use Rattle.plan.specs.declared.Plan.{Plan}
 use Rattle.plan.specs.Tests.{Test, first_broken, any_of, Unbroken}
 use Rattle.plan.specs.Valid.{Valid}
-use Rattle.plan.proofs.Numbers.{none-broken, number-never, refused_by, first-behind}
+use Rattle.plan.proofs.Numbers.{none_broken, number_never, refused_by, first_behind}
 use Rattle.writing.proofs.Cleaned.{ignores_unused}
-use Rattle.writing.proofs.Accepted.{written-accepted, written-refused_by}
-use Rattle.writing.proofs.Theorems.{written-longest, written_is_read, read_is_written, nothing_written, rest-kept}
+use Rattle.writing.proofs.Accepted.{written_accepted, written_refused_by}
+use Rattle.writing.proofs.Theorems.{written_longest, written_is_read, read_is_written, nothing_written, rest_kept}
 use Rattle.run.specs.Run.{needed, cleared}
-use Rattle.plan.proofs.Entries.{components-count}
+use Rattle.plan.proofs.Entries.{components_count}
 use Rattle.evaluate.specs.declared.Answer.{Answer}
 use Rattle.evaluate.specs.declared.SheetRun.{SheetRun}
 use Rattle.evaluate.specs.Answer.{plan_of, components, structure, sheet_outcomes, sheet_list, call_tests, evaluated, ending, refusal, answer_of}
 use Rattle.evaluate.specs.Store.{is_late, store_by, store_with, store_after}
 use Rattle.evaluate.specs.SheetRun.{refused_run, sheet_run_of, ending_at, without_shares}
 use Rattle.evaluate.specs.Demands.{Passed, Broken, by_test, by_join, answer_at, answered, Demand-1, Demand-2, Demand-3, DemandsMet, Writer, RoundTrips}
-use Rattle.evaluate.proofs.Numbers.{Numbered, call-numbered, number_then_is, Ended, tested, stopped, passed, ended, answer_is, store_is}
+use Rattle.evaluate.proofs.Numbers.{Numbered, call_numbered, number_then_is, Ended, tested, stopped, passed, ended, answer_is, store_is}
 use Rattle.evaluate.proofs.Finish.{WithinAllowance, completes, within, leaves_by, drive_fits, drive_storable, late, above, ready}
 
 -- Equal functions over an equal whole have the same bounds.
@@ -54,10 +54,10 @@ bounds_of : {I : Type 0} {es : List Entry} {cs : List Component} {v w : ℕ} {de
 bounds_of e p q b = record {
   least = λ D i. rw (← p i, ← e) (b.least D i);
   greatest = λ D i. rw (← q i, ← e) (b.greatest D i);
-  least-met = (b.least-met.0, λ i. rw (← p i, ← e) (b.least-met.1 i));
-  greatest-met = (b.greatest-met.0, λ i. rw (← q i, ← e) (b.greatest-met.1 i));
-  least-tight = λ i a c t. rw (← p i, ← e) (b.least-tight i a c t);
-  greatest-tight = λ i a c t. rw (← q i, ← e) (b.greatest-tight i a c t);
+  least_met = (b.least_met.0, λ i. rw (← p i, ← e) (b.least_met.1 i));
+  greatest_met = (b.greatest_met.0, λ i. rw (← q i, ← e) (b.greatest_met.1 i));
+  least_tight = λ i a c t. rw (← p i, ← e) (b.least_tight i a c t);
+  greatest_tight = λ i a c t. rw (← q i, ← e) (b.greatest_tight i a c t);
 }
 
 -- ---- demand 1, for every call: what it ends in, and what its number says
@@ -79,7 +79,7 @@ module _ (tests : List Test) (s : List ℕ) (allowance : ℕ) (store : List ℕ)
   was_passed ns (passed {stack = stack} {pairs = pairs} z q) e = record { unbroken = ns.kept z; stack = stack; pairs = pairs; runs = q }
 
   pub passes : (pass : Passed tests s allowance) → end ≡ completed pass.stack pass.pairs
-  passes pass = rw (none-broken pass.unbroken, pass.runs)
+  passes pass = rw (none_broken pass.unbroken, pass.runs)
 
   was_broken : Numbered tests → (k : ℕ) → 0 < k → {v : Evaluation Tree} → Ended number s allowance v → end_number v ≡ k → Broken tests s allowance k
   was_broken ns k h (tested l z) e = by_test ((refused_by tests k h).0 (z ∙ e))
@@ -87,7 +87,7 @@ module _ (tests : List Test) (s : List ℕ) (allowance : ℕ) (store : List ℕ)
   was_broken ns k h (passed z q) e = absurd (omega arith)
 
   breaks : (k : ℕ) → 0 < k → Broken tests s allowance k → end_number end ≡ k
-  breaks k h (by_join t l q) = rw (none-broken t, q)
+  breaks k h (by_join t l q) = rw (none_broken t, q)
   breaks k h (by_test f) = go k h ((refused_by tests k h).1 f)
     where
       go : (n : ℕ) → 0 < n → first_broken tests ≡ n → end_number end ≡ n
@@ -133,13 +133,13 @@ module _ (s : List ℕ) (allowance : ℕ) (store : List ℕ) (own : List Test) w
   pub number-own : {n : ℕ} {after : List ℕ} → Demand-1 (first_tests ++ own) s allowance n store after
       → (k : ℕ) → 0 < k → is_late k ≡ false → any_of (λ t. eqb t.number k) first_tests ≡ false → (n ≡ k) ↔ (Every Unbroken first_tests × (first_broken own ≡ k))
   number-own d k h l e =
-      (λ m. found ((d.refused_by k h).0 m), λ (u, f). (d.refused_by k h).1 (by_test (first-behind u ((refused_by own k h).0 f))))
+      (λ m. found ((d.refused_by k h).0 m), λ (u, f). (d.refused_by k h).1 (by_test (first_behind u ((refused_by own k h).0 f))))
     where
       go : (j : ℕ) → first_broken first_tests ≡ j → cond (eqb j 0) (first_broken own) j ≡ k → Every Unbroken first_tests × (first_broken own ≡ k)
-      go zero z q = ((call-numbered s (length store)).kept z, q)
+      go zero z q = ((call_numbered s (length store)).kept z, q)
       go (suc j) z q =
           let m : suc j ≡ k = rw (ne_eqb (suc j) 0 (λ z. omega arith)) at q in
-          absurd (false≢true (sym (number-never (λ n. eqb n k) (ne_eqb 0 k (λ z. omega arith)) first_tests e) ∙ eq-eqb _ k (z ∙ m)))
+          absurd (false≢true (sym (number_never (λ n. eqb n k) (ne_eqb 0 k (λ z. omega arith)) first_tests e) ∙ eq-eqb _ k (z ∙ m)))
 
       found : Broken (first_tests ++ own) s allowance k → Every Unbroken first_tests × (first_broken own ≡ k)
       found (by_join u m q) = absurd (false≢true (sym l ∙ late k m))
@@ -170,7 +170,7 @@ pub record Accepted (s : List ℕ) (allowance : ℕ) (store : List ℕ) (r : She
 
 module _ {s : List ℕ} {allowance : ℕ} {store : List ℕ} {r : SheetRun} {after : List ℕ} (a : Accepted s allowance store r after) where
   pub valid : Valid (plan_of s)
-  valid = (ready s store (none-broken a.unbroken)).valid
+  valid = (ready s store (none_broken a.unbroken)).valid
 
   pub total_is : r.total ≡ total (components s)
   total_is = ap (λ (x : SheetRun). x.total) a.answer_is_run
@@ -186,39 +186,39 @@ module _ {s : List ℕ} {allowance : ℕ} {store : List ℕ} {r : SheetRun} {aft
         let pairs_is : r.pairs ≡ a.pairs = ap (λ (x : SheetRun). x.pairs) a.answer_is_run in
         let fits = drive_storable valid in
         let range : Every InRange l = (drive_fits valid).speeds in
-        let six : length (components s) ≤ most_components = omega (arith, components-count (plan_of s), valid.most) in
+        let six : length (components s) ≤ most_components = omega (arith, components_count (plan_of s), valid.most) in
         record {
-          masses-most = every_map (λ c h. length-masses c h.1) valid.counts;
+          masses_most = every_map (λ c h. length-masses c h.1) valid.counts;
           masses_once = valid.distinct;
-          masses-whole = valid.balanced;
-          masses-rest = every-all rest-added (components s);
+          masses_whole = valid.balanced;
+          masses_rest = every_all rest_added (components s);
           total_is = total_is;
           belief_is = b;
           plausibility_is = p;
           belief_antitone = λ i j h. rw (b i, b j) (share_antitone demand_at (λ low high. low) every i j h);
           plausibility_antitone = λ i j h. rw (p i, p j) (share_antitone demand_at (λ low high. high) every i j h);
-          total-most = rw total_is (le_trans (total_le (every_map (λ c t. t.1) valid.totals)) (pow-le-pow_right {n = most_total} (omega arith) six));
-          spans = spans-choices (structure s) valid.in_range;
+          total_most = rw total_is (le_trans (total_le (every_map (λ c t. t.1) valid.totals)) (pow-le-pow_right {n = most_total} (omega arith) six));
+          spans = spans_choices (structure s) valid.in_range;
           list_length = n;
-          list_read = rw (n, a.stored) (settled-list (needed (plan_of s)) store fits.0 fits.1);
-          list-ordered = order-collect every;
-          list-positive = rw leaves.list at (positive-collect (positive-outcomes_of valid.positive leaves.tree));
-          lists-ordered = λ t. order-collect (outcomes_of (components s) t);
-          lists-weights = weights_list_of valid.balanced;
+          list_read = rw (n, a.stored) (settled_list (needed (plan_of s)) store fits.0 fits.1);
+          list_ordered = order_collect every;
+          list_positive = rw leaves.list at (positive_collect (positive_outcomes_of valid.positive leaves.tree));
+          lists_ordered = λ t. order_collect (outcomes_of (components s) t);
+          lists_weights = weights_list_of valid.balanced;
           list_in_range = range;
           lists_in_range = λ t. (fits_list_of valid.in_range valid.balanced (every_map (λ c q. q.1) valid.totals) t).speeds;
           above_top = λ i h. (
-            b i ∙ sym (belief-collect (demand_at i) every) ∙ where_none (λ low high. leb (demand_at i) low) (every_map (λ f q. lt-leb (demand_at i) f.low (omega (arith, q.low-high, q.below))) range),
+            b i ∙ sym (belief-collect (demand_at i) every) ∙ where_none (λ low high. leb (demand_at i) low) (every_map (λ f q. lt-leb (demand_at i) f.low (omega (arith, q.low_high, q.below))) range),
             p i ∙ sym (plausibility-collect (demand_at i) every) ∙ where_none (λ low high. leb (demand_at i) high) (every_map (λ f q. lt-leb (demand_at i) f.high (omega (arith, q.below))) range),
           );
-          list-weight = λ low high. weight_at-collect low high every;
-          list-weights = weights-drive_list valid.balanced (structure s) ∙ sym total_is;
-          list-belief = λ i. belief-collect (demand_at i) every ∙ sym (b i);
-          list-plausibility = λ i. plausibility-collect (demand_at i) every ∙ sym (p i);
+          list_weight = λ low high. weight_at-collect low high every;
+          list_weights = weights-drive_list valid.balanced (structure s) ∙ sym total_is;
+          list_belief = λ i. belief-collect (demand_at i) every ∙ sym (b i);
+          list_plausibility = λ i. plausibility-collect (demand_at i) every ∙ sym (p i);
           tree = leaves.tree;
           built = leaves.built;
           pairs_are = pairs_is ∙ leaves.counted;
-          pairs-most = allowed (rw a.runs at (within (components s) allowance (structure s) [] 0 (omega arith))) pairs_is;
+          pairs_most = allowed (rw a.runs at (within (components s) allowance (structure s) [] 0 (omega arith))) pairs_is;
         }
       where
         allowed : {stack : List Tree} {pairs n : ℕ} → WithinAllowance allowance (completed stack pairs) → n ≡ pairs → n ≤ allowance
@@ -253,7 +253,7 @@ module _ (s : List ℕ) (demand allowance : ℕ) (store : List ℕ) where
   number_is = ap (λ (a : Answer). a.number) (answer_is s demand allowance room) ∙ number_by ends s demand
 
   pub demand_1 : Demand-1 (call_tests s room) s allowance (answered s demand allowance store).number store (store_after s allowance store)
-  demand_1 = demand_1_of (call_tests s room) s allowance store (call-numbered s room) number_is (store_is s allowance store)
+  demand_1 = demand_1_of (call_tests s room) s allowance store (call_numbered s room) number_is (store_is s allowance store)
 
   pub zeros : (k : ℕ) → 0 < k → (answered s demand allowance store).number ≡ k → answered s demand allowance store ≡ refusal k
   zeros k h e = answer_is s demand allowance room ∙ zeros_by k h ends s demand (sym number_is ∙ e)
@@ -290,16 +290,16 @@ module _ (s : List ℕ) (demand allowance : ℕ) (store : List ℕ) where
 pub writer : (p : Plan) (buffer : List ℕ) → Writer p buffer
 writer p buffer =
     record {
-      accepted = written-accepted p (length buffer);
-      refused_by = written-refused_by p (length buffer);
+      accepted = written_accepted p (length buffer);
+      refused_by = written_refused_by p (length buffer);
       nothing_written = nothing_written p buffer;
-      rest-kept = rest-kept p buffer;
-      longest = written-longest p (length buffer);
+      rest_kept = rest_kept p buffer;
+      longest = written_longest p (length buffer);
       ignores_unused = ignores_unused p buffer;
     }
 
 pub round_trips : RoundTrips
-round_trips = record { written-reads = written_is_read; read_writes = read_is_written }
+round_trips = record { written_reads = written_is_read; read_writes = read_is_written }
 
 -- ---- The numbers of an answer fit 64 bits.
 
@@ -313,32 +313,32 @@ pub record Fits64 (allowance : ℕ) (a : Answer) : Type 0 where
   pub belief : a.belief < 2 ^ 64
   pub plausibility : a.plausibility < 2 ^ 64
 
-pub refused-fits : (allowance k : ℕ) → RunFits64 allowance (refused_run k)
-refused-fits allowance k = record { total = omega arith; pairs = λ h. omega arith; intervals = omega arith }
+pub refused_fits : (allowance k : ℕ) → RunFits64 allowance (refused_run k)
+refused_fits allowance k = record { total = omega arith; pairs = λ h. omega arith; intervals = omega arith }
 
-pub refusal-fits : (allowance k : ℕ) → Fits64 allowance (refusal k)
-refusal-fits allowance k = record { run = refused-fits allowance k; belief = omega arith; plausibility = omega arith }
+pub refusal_fits : (allowance k : ℕ) → Fits64 allowance (refusal k)
+refusal_fits allowance k = record { run = refused_fits allowance k; belief = omega arith; plausibility = omega arith }
 
 length_le : {l : List Focal} → Every Positive l → length l ≤ weights l
 length_le Every.none = omega arith
 length_le (Every.more p r) = omega (arith, length_le r)
 
 module _ (s : List ℕ) (demand allowance : ℕ) (store : List ℕ) where
-  pub answer-fits : Fits64 allowance (answered s demand allowance store)
-  answer-fits = elim (ℕ_discrete (answered s demand allowance store).number 0) [
+  pub answer_fits : Fits64 allowance (answered s demand allowance store)
+  answer_fits = elim (ℕ_discrete (answered s demand allowance store).number 0) [
     | yes e ↦
         let second = demand_2 s demand allowance store e in
         let l = sheet_list s in
-        let t : weights l ≤ 1000000000000000000 = omega (arith, second.list-weights, second.total-most) in
-        let p : length l ≤ weights l = length_le second.list-positive in
+        let t : weights l ≤ 1000000000000000000 = omega (arith, second.list_weights, second.total_most) in
+        let p : length l ≤ weights l = length_le second.list_positive in
         record {
           run = record {
-            total = omega (arith, second.total-most);
-            pairs = λ h. omega (arith, second.pairs-most);
+            total = omega (arith, second.total_most);
+            pairs = λ h. omega (arith, second.pairs_most);
             intervals = omega (arith, second.list_length);
           };
-          belief = omega (arith, second.list-belief demand, where_le (λ low high. leb demand low) l);
-          plausibility = omega (arith, second.list-plausibility demand, where_le (λ low high. leb demand high) l);
+          belief = omega (arith, second.list_belief demand, where_le (λ low high. leb demand low) l);
+          plausibility = omega (arith, second.list_plausibility demand, where_le (λ low high. leb demand high) l);
         }
-    | no n ↦ rw (zeros s demand allowance store (answered s demand allowance store).number (omega arith) refl) (refusal-fits allowance _)
+    | no n ↦ rw (zeros s demand allowance store (answered s demand allowance store).number (omega arith) refl) (refusal_fits allowance _)
   ]

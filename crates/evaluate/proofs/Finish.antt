@@ -19,16 +19,16 @@ use Rattle.theory.specs.Evaluation.{Evaluation, completed, refused, refuse_if, w
 use Rattle.theory.specs.Limits.{most_intervals, record_bytes, thousandths}
 use Rattle.theory.proofs.Every.{every_map}
 use Rattle.theory.specs.Order.{InOrder}
-use Rattle.theory.proofs.Collect.{order-collect, belief-collect, plausibility-collect}
-use Rattle.theory.proofs.Method.{image, evaluate-lists, evaluate-refused, Leaves, method}
-use Rattle.theory.proofs.Totals.{Fits, fits_drive, total-positive}
+use Rattle.theory.proofs.Collect.{order_collect, belief-collect, plausibility-collect}
+use Rattle.theory.proofs.Method.{image, evaluate_lists, evaluate-refused, Leaves, method}
+use Rattle.theory.proofs.Totals.{Fits, fits_drive, total_positive}
 use Rattle.queries.specs.declared.Shares.{Shares}
 use Rattle.records.specs.Records.{records, Storable}
 use Rattle.queries.specs.Shares.{shares_of, shares_bytes, encode_shares, encode_set, demand_tests, Readable}
 use Rattle.queries.specs.Speed.{target_tests, ValidTarget}
 use Rattle.records.proofs.Records.{length-encode}
 use Rattle.records.specs.Store.{settled}
-use Rattle.records.proofs.Store.{settled-list}
+use Rattle.records.proofs.Store.{settled_list}
 use Rattle.plan.specs.declared.Plan.{Plan}
 use Rattle.theory.specs.Sums.{for_each, Every}
 use Rattle.plan.specs.Tests.{first_broken, Unbroken}
@@ -36,17 +36,17 @@ use Rattle.plan.proofs.Numbers.{no_number}
 use Rattle.plan.proofs.Tests.{within as within-bounds}
 use Rattle.plan.specs.Plan.{components_of, entries_of}
 use Rattle.plan.specs.Valid.{Valid}
-use Rattle.writing.proofs.Theorems.{read-valid}
+use Rattle.writing.proofs.Theorems.{read_valid}
 use Rattle.run.specs.declared.Ran.{Ran}
 use Rattle.run.specs.Run.{needed, walked, ran_of, store_of, Runnable}
-use Rattle.plan.proofs.Entries.{components-count}
+use Rattle.plan.proofs.Entries.{components_count}
 use Rattle.run.proofs.Stacked.{fits_record}
 use Rattle.evaluate.specs.declared.SheetRun.{SheetRun}
 use Rattle.evaluate.specs.Answer.{plan_of, components, structure, sheet_outcomes, sheet_list, call_tests, evaluated, answer_of}
 use Rattle.evaluate.specs.Store.{is_late, store_by}
 use Rattle.evaluate.specs.SheetRun.{number_then, refused_run, sheet_run_of, answer_from, ending_at, store_at, sheet_run, store_then}
 use Rattle.evaluate.specs.Set.{shares_by}
-use Rattle.evaluate.proofs.Numbers.{tests_say, number_passed, own-passed, number-early, Ended, tested, stopped, passed, ended}
+use Rattle.evaluate.proofs.Numbers.{tests_say, number_passed, own_passed, number_early, Ended, tested, stopped, passed, ended}
 
 -- ---- a completed evaluation has formed no more pairs than the allowance
 
@@ -84,17 +84,17 @@ module _ {p : Plan} (valid : Valid p) where
   es = entries_of p
 
   entries_are : length es + 1 ≡ 2 * length cs
-  entries_are = valid.entries ∙ ap (2 *◌) (sym (components-count p))
+  entries_are = valid.entries ∙ ap (2 *◌) (sym (components_count p))
 
   each_once : NamedOnce (length cs) es
-  each_once i = valid.named_once i ∙ ap (λ n. cond (ltb i n) 1 0) (sym (components-count p))
+  each_once i = valid.named_once i ∙ ap (λ n. cond (ltb i n) 1 0) (sym (components_count p))
 
   pub leaves_by : (allowance : ℕ) (stack : List Tree) (pairs : ℕ) → evaluate cs allowance es ≡ completed stack pairs → Leaves cs es stack pairs
   leaves_by allowance = method valid.positive allowance es entries_are each_once valid.find_two
 
   pub run_ends : (allowance : ℕ) → RunEnds cs es (walked p allowance) (evaluate cs allowance es)
   unfolding walked
-  run_ends allowance = rw (evaluate-lists valid.positive allowance es) (go (evaluate cs allowance es) refl)
+  run_ends allowance = rw (evaluate_lists valid.positive allowance es) (go (evaluate cs allowance es) refl)
     where
       go : (v : Evaluation Tree) → evaluate cs allowance es ≡ v → RunEnds cs es (image (list_of cs) v) v
       go (refused k) q = stops (evaluate-refused cs allowance es k q)
@@ -108,11 +108,11 @@ module _ {p : Plan} (valid : Valid p) where
   drive_fits = fits_drive valid.in_range valid.balanced (every_map (λ c q. q.1) valid.totals) valid.positive es entries_are each_once valid.find_two
 
   pub drive_storable : Storable (drive_list es cs)
-  drive_storable = fits_record drive_fits (omega (arith, components-count p, valid.most))
+  drive_storable = fits_record drive_fits (omega (arith, components_count p, valid.most))
 
 -- A list that a store holds takes its records' bytes.
-settled-room : (size : ℕ) (l : List Focal) (s : List ℕ) → record_bytes * length l ≤ length (settled size l s)
-settled-room size l s = simp length-append (omega (arith, length-encode l))
+settled_room : (size : ℕ) (l : List Focal) (s : List ℕ) → record_bytes * length l ≤ length (settled size l s)
+settled_room size l s = simp length-append (omega (arith, length-encode l))
 
 -- 13 and 14 are late.
 pub late : (k : ℕ) → (k ≡ 13) ⊎ (k ≡ 14) → is_late k ≡ true
@@ -126,7 +126,7 @@ above k (inr e) = omega arith
 -- ---- a call
 
 pub ready : (s store : List ℕ) → first_broken (call_tests s (length store)) ≡ 0 → Runnable (plan_of s) store
-ready s store z = let say = tests_say s (length store) z in record { valid = read-valid s say.0; enough = say.1 }
+ready s store z = let say = tests_say s (length store) z in record { valid = read_valid s say.0; enough = say.1 }
 
 -- Tests and run, by the number of the call's own tests.
 module _ (s : List ℕ) (own allowance : ℕ) (store : List ℕ) where
@@ -137,11 +137,11 @@ module _ (s : List ℕ) (own allowance : ℕ) (store : List ℕ) where
   end = ending_at number s allowance
 
   -- A call that a test refuses.
-  pub tested-call : is_late own ≡ false → (k : ℕ) → number ≡ k → (k ≡ 0 → ⊥) → (refused_run k ≡ sheet_run_of end s) × (store ≡ store_at number s allowance store)
-  tested-call h zero e z = absurd (z refl)
-  tested-call h (suc k) e z =
+  pub tested_call : is_late own ≡ false → (k : ℕ) → number ≡ k → (k ≡ 0 → ⊥) → (refused_run k ≡ sheet_run_of end s) × (store ≡ store_at number s allowance store)
+  tested_call h zero e z = absurd (z refl)
+  tested_call h (suc k) e z =
       let w : end ≡ refused (suc k) = ap (λ (n : ℕ). ending_at n s allowance) e in
-      let m : is_late (suc k) ≡ false = ap is_late (sym e) ∙ number-early s (length store) own h in
+      let m : is_late (suc k) ≡ false = ap is_late (sym e) ∙ number_early s (length store) own h in
       (ap (λ (v : Evaluation Tree). sheet_run_of v s) (sym w), sym (ap (λ (v : Evaluation Tree). store_by v (needed (plan_of s)) (sheet_list s) store) w ∙ rw m))
 
   -- A call past the tests, by what the run answers and the store that it leaves.
@@ -210,11 +210,11 @@ module _ (s : List ℕ) (own allowance : ℕ) (store : List ℕ) where
       go (passed z q) e f =
           let m : r.intervals ≡ length (sheet_list s) = ap (λ (y : SheetRun). y.intervals) e in
           let fits = drive_storable (ready s store (number_passed s (length store) own z)).valid in
-          let back : records r.intervals x ≡ sheet_list s = rw (m, f) (settled-list (needed (plan_of s)) store fits.0 fits.1) in
+          let back : records r.intervals x ≡ sheet_list s = rw (m, f) (settled_list (needed (plan_of s)) store fits.0 fits.1) in
           record {
-            readable = record { room = rw (m, f) (settled-room (needed (plan_of s)) (sheet_list s) store); fits = rw back fits.1 };
+            readable = record { room = rw (m, f) (settled_room (needed (plan_of s)) (sheet_list s) store); fits = rw back fits.1 };
             list_is = back;
-            ordered = rw back (order-collect (sheet_outcomes s));
+            ordered = rw back (order_collect (sheet_outcomes s));
           }
 
   -- What is known past tests and run: what they answered, the store, and the list in it.
@@ -241,15 +241,15 @@ target_asked s target allowance store r e h = go (ended (number s own allowance 
     go (tested k z) e = absurd (omega (arith, ap (λ (y : SheetRun). y.intervals) e))
     go (stopped z l q) e = absurd (omega (arith, ap (λ (y : SheetRun). y.intervals) e))
     go (passed z q) e =
-        let bounds = target_inside (no_number 16 (target_tests target) refl (own-passed s (length store) own z)) in
+        let bounds = target_inside (no_number 16 (target_tests target) refl (own_passed s (length store) own z)) in
         let valid = (ready s store (number_passed s (length store) own z)).valid in
-        let positive = total-positive (every_map (λ c t. t.0) valid.totals) in
-        record { least = bounds.0; most = bounds.1; total-positive = omega (arith, positive, ap (λ (y : SheetRun). y.total) e) }
+        let positive = total_positive (every_map (λ c t. t.0) valid.totals) in
+        record { least = bounds.0; most = bounds.1; total_positive = omega (arith, positive, ap (λ (y : SheetRun). y.total) e) }
 
 -- A set of demands that passes its tests has room for its shares.
-pub shares-room : (s demands : List ℕ) (allowance : ℕ) (store shares : List ℕ) → let own : ℕ = first_broken (demand_tests (length demands) (length shares)) in
+pub shares_room : (s demands : List ℕ) (allowance : ℕ) (store shares : List ℕ) → let own : ℕ = first_broken (demand_tests (length demands) (length shares)) in
     (r : SheetRun) → r ≡ sheet_run_of (end s own allowance store) s → r.number ≡ 0 → shares_bytes * length demands ≤ length shares
-shares-room s demands allowance store shares r e h = go (ended (number s own allowance store) s allowance) e
+shares_room s demands allowance store shares r e h = go (ended (number s own allowance store) s allowance) e
   where
     own : ℕ
     own = first_broken (demand_tests (length demands) (length shares))
@@ -260,27 +260,27 @@ shares-room s demands allowance store shares r e h = go (ended (number s own all
     go : {v : Evaluation Tree} → Ended (number s own allowance store) s allowance v → r ≡ sheet_run_of v s → shares_bytes * length demands ≤ length shares
     go (tested k z) e = absurd (omega (arith, ap (λ (y : SheetRun). y.number) e))
     go (stopped {k = k} z l q) e = absurd (omega (arith, above k l, ap (λ (y : SheetRun). y.number) e))
-    go (passed z q) e = fits (no_number 18 (demand_tests (length demands) (length shares)) refl (own-passed s (length store) own z))
+    go (passed z q) e = fits (no_number 18 (demand_tests (length demands) (length shares)) refl (own_passed s (length store) own z))
 
 -- The shares' buffer: refused, as it was; accepted, with the shares of the list.
-pub shares-refused : (s demands shares : List ℕ) (v : Evaluation Tree) {r : SheetRun} → r ≡ sheet_run_of v s → (r.number ≡ 0 → ⊥)
+pub shares_refused : (s demands shares : List ℕ) (v : Evaluation Tree) {r : SheetRun} → r ≡ sheet_run_of v s → (r.number ≡ 0 → ⊥)
     → shares ≡ shares_by v demands (sheet_outcomes s) shares
-shares-refused s demands shares (refused k) e h = refl
-shares-refused s demands shares (completed stack pairs) e h = absurd (h (ap (λ (y : SheetRun). y.number) e))
+shares_refused s demands shares (refused k) e h = refl
+shares_refused s demands shares (completed stack pairs) e h = absurd (h (ap (λ (y : SheetRun). y.number) e))
 
-pub shares-asked : (s demands shares : List ℕ) {number allowance : ℕ} {v : Evaluation Tree} → Ended number s allowance v → {r : SheetRun} → r ≡ sheet_run_of v s → r.number ≡ 0
+pub shares_asked : (s demands shares : List ℕ) {number allowance : ℕ} {v : Evaluation Tree} → Ended number s allowance v → {r : SheetRun} → r ≡ sheet_run_of v s → r.number ≡ 0
     → encode_set demands (asked_list v s) ++ drop (shares_bytes * length demands) shares ≡ shares_by v demands (sheet_outcomes s) shares
-shares-asked s demands shares (tested k z) e h = absurd (omega (arith, ap (λ (y : SheetRun). y.number) e))
-shares-asked s demands shares (stopped {k = k} z l q) e h = absurd (omega (arith, above k l, ap (λ (y : SheetRun). y.number) e))
-shares-asked s demands shares (passed z q) e h =
+shares_asked s demands shares (tested k z) e h = absurd (omega (arith, ap (λ (y : SheetRun). y.number) e))
+shares_asked s demands shares (stopped {k = k} z l q) e h = absurd (omega (arith, above k l, ap (λ (y : SheetRun). y.number) e))
+shares_asked s demands shares (passed z q) e h =
     λ i.
     for_each demands (λ d. encode_shares (record { belief = belief-collect d (sheet_outcomes s) i; plausibility = plausibility-collect d (sheet_outcomes s) i }))
     ++ drop (shares_bytes * length demands) shares
 
 -- The answer, from what tests and run answered and the list's shares.
-pub answer-asked : (s : List ℕ) (demand : ℕ) (v : Evaluation Tree) {r : SheetRun} → r ≡ sheet_run_of v s → {b : Shares} → b ≡ shares_of demand (asked_list v s)
+pub answer_asked : (s : List ℕ) (demand : ℕ) (v : Evaluation Tree) {r : SheetRun} → r ≡ sheet_run_of v s → {b : Shares} → b ≡ shares_of demand (asked_list v s)
     → answer_from r b ≡ answer_of v (structure s) (components s) demand
-answer-asked s demand v e f = (λ i. answer_from (e i) (f i)) ∙ go v
+answer_asked s demand v e f = (λ i. answer_from (e i) (f i)) ∙ go v
   where
     go : (v : Evaluation Tree) → answer_from (sheet_run_of v s) (shares_of demand (asked_list v s)) ≡ answer_of v (structure s) (components s) demand
     go (refused k) = refl

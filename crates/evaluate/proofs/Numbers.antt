@@ -17,7 +17,7 @@ use Rattle.reading.specs.declared.Reading.{Reading}
 use Rattle.plan.specs.Tests.{Test, test, first_broken, Unbroken, outside, any_of}
 use Rattle.reading.specs.Reading.{sheet_tests, read_of}
 use Rattle.reading.proofs.Decided.{read_number_is}
-use Rattle.plan.proofs.Numbers.{no_number, number-never, first_found, first-none, first_then}
+use Rattle.plan.proofs.Numbers.{no_number, number_never, first_found, first_none, first_then}
 use Rattle.run.specs.Run.{needed}
 use Rattle.evaluate.specs.Answer.{plan_of, components, structure, sheet_outcomes, call_tests, tested_of, evaluated, tested_first, ending, answer_with, answer}
 use Rattle.evaluate.specs.Store.{is_late, store_with, store_after}
@@ -34,18 +34,18 @@ module _ (s : List ℕ) (room : ℕ) where
   number_unread h = first_found (sheet_tests s) twelve (λ z. h (read_number_is s ∙ z)) ∙ sym (read_number_is s)
 
   number_read : (read_of s).number ≡ 0 → first_broken (call_tests s room) ≡ cond (ltb room (needed (plan_of s))) 12 0
-  number_read z = first-none twelve (no_number 11 (sheet_tests s) refl (sym (read_number_is s) ∙ z))
+  number_read z = first_none twelve (no_number 11 (sheet_tests s) refl (sym (read_number_is s) ∙ z))
 
   -- What is known of a sheet and a store where no test is broken.
   pub tests_say : first_broken (call_tests s room) ≡ 0 → ((read_of s).number ≡ 0) × (needed (plan_of s) ≤ room)
   tests_say e = elim (ℕ_discrete (read_of s).number 0) [
-    | yes z ↦ (z, room-there (ltb room (needed (plan_of s))) refl (sym (number_read z) ∙ e))
+    | yes z ↦ (z, room_there (ltb room (needed (plan_of s))) refl (sym (number_read z) ∙ e))
     | no n ↦ absurd (n (sym (number_unread n) ∙ e))
   ]
     where
-      room-there : (b : Bool) → ltb room (needed (plan_of s)) ≡ b → ◌≡◌ {A = ℕ} (cond b 12 0) 0 → needed (plan_of s) ≤ room
-      room-there true q z = absurd (omega arith)
-      room-there false q z = ltb-false room (needed (plan_of s)) q
+      room_there : (b : Bool) → ltb room (needed (plan_of s)) ≡ b → ◌≡◌ {A = ℕ} (cond b 12 0) 0 → needed (plan_of s) ≤ room
+      room_there true q z = absurd (omega arith)
+      room_there false q z = ltb-false room (needed (plan_of s)) q
 
   -- The tests go three ways.
   abbrev numbered : ℕ → Reading
@@ -55,13 +55,13 @@ module _ (s : List ℕ) (room : ℕ) where
   unfolding tested_of
   tested_unread h = ap numbered (sym (number_unread h))
 
-  pub tested-short : (read_of s).number ≡ 0 → room < needed (plan_of s) → numbered 12 ≡ tested_of s room
+  pub tested_short : (read_of s).number ≡ 0 → room < needed (plan_of s) → numbered 12 ≡ tested_of s room
   unfolding tested_of
-  tested-short z h = ap numbered (sym (number_read z ∙ rw (lt-ltb room (needed (plan_of s)) h)))
+  tested_short z h = ap numbered (sym (number_read z ∙ rw (lt-ltb room (needed (plan_of s)) h)))
 
-  pub tested-kept : (read_of s).number ≡ 0 → needed (plan_of s) ≤ room → read_of s ≡ tested_of s room
+  pub tested_kept : (read_of s).number ≡ 0 → needed (plan_of s) ≤ room → read_of s ≡ tested_of s room
   unfolding tested_of
-  tested-kept z h = ap numbered (z ∙ sym (number_read z ∙ rw (le-ltb room (needed (plan_of s)) h)))
+  tested_kept z h = ap numbered (z ∙ sym (number_read z ∙ rw (le-ltb room (needed (plan_of s)) h)))
 
   pub tested_is : tested_of s room ≡ numbered (first_broken (call_tests s room))
   unfolding tested_of
@@ -76,24 +76,24 @@ pub record Numbered (tests : List Test) : Type 0 where
 
 -- It is seen by two tests of all numbers. (27 is the last number of document 02.)
 numbered_by : (tests : List Test) → any_of (λ t. outside 1 27 t.number) tests ≡ false → any_of (λ t. is_late t.number) tests ≡ false → Numbered tests
-numbered_by tests e f = record { kept = no_number 27 tests e; early = number-never is_late refl tests f }
+numbered_by tests e f = record { kept = no_number 27 tests e; early = number_never is_late refl tests f }
 
-pub call-numbered : (s : List ℕ) (room : ℕ) → Numbered (call_tests s room)
-call-numbered s room = numbered_by (call_tests s room) refl refl
+pub call_numbered : (s : List ℕ) (room : ℕ) → Numbered (call_tests s room)
+call_numbered s room = numbered_by (call_tests s room) refl refl
 
 pub speed_numbered : (s : List ℕ) (target room : ℕ) → Numbered (speed_tests s target room)
 speed_numbered s target room = numbered_by (speed_tests s target room) refl refl
 
-pub set-numbered : (s demands : List ℕ) (room bytes : ℕ) → Numbered (set_tests s demands room bytes)
-set-numbered s demands room bytes = numbered_by (set_tests s demands room bytes) refl refl
+pub set_numbered : (s demands : List ℕ) (room bytes : ℕ) → Numbered (set_tests s demands room bytes)
+set_numbered s demands room bytes = numbered_by (set_tests s demands room bytes) refl refl
 
 -- A call's own tests come behind the others.
 module _ (s : List ℕ) (room : ℕ) where
   pub number_then_is : (own : List Test) → number_then s room (first_broken own) ≡ first_broken (call_tests s room ++ own)
   number_then_is own = first_then 12 (call_tests s room) own refl
 
-  pub number-alone : number_then s room 0 ≡ first_broken (call_tests s room)
-  number-alone = number_then_is [] ∙ ap first_broken (append-nil (call_tests s room))
+  pub number_alone : number_then s room 0 ≡ first_broken (call_tests s room)
+  number_alone = number_then_is [] ∙ ap first_broken (append-nil (call_tests s room))
 
   pub number_passed : (own : ℕ) → number_then s room own ≡ 0 → first_broken (call_tests s room) ≡ 0
   number_passed own = go (first_broken (call_tests s room))
@@ -102,11 +102,11 @@ module _ (s : List ℕ) (room : ℕ) where
       go zero e = refl
       go (suc k) e = rw (ne_eqb (suc k) 0 (λ z. omega arith)) at e
 
-  pub own-passed : (own : ℕ) → number_then s room own ≡ 0 → own ≡ 0
-  own-passed own e = rw (number_passed own e) at e
+  pub own_passed : (own : ℕ) → number_then s room own ≡ 0 → own ≡ 0
+  own_passed own e = rw (number_passed own e) at e
 
-  pub number-early : (own : ℕ) → is_late own ≡ false → is_late (number_then s room own) ≡ false
-  number-early own h = go (first_broken (call_tests s room)) (call-numbered s room).early
+  pub number_early : (own : ℕ) → is_late own ≡ false → is_late (number_then s room own) ≡ false
+  number_early own h = go (first_broken (call_tests s room)) (call_numbered s room).early
     where
       go : (k : ℕ) → is_late k ≡ false → is_late (cond (eqb k 0) own k) ≡ false
       go zero e = h
@@ -146,10 +146,10 @@ pub speed_store_is : (s : List ℕ) (target allowance : ℕ) (store : List ℕ)
 unfolding speed_store_after
 speed_store_is s target allowance store = refl
 
-pub set-answer_is : (s demands : List ℕ) (allowance room bytes : ℕ)
+pub set_answer_is : (s demands : List ℕ) (allowance room bytes : ℕ)
     → set_answer s demands allowance room bytes ≡ sheet_run_of (ending (set_tests s demands room bytes) s allowance) s
 unfolding set_answer
-set-answer_is s demands allowance room bytes = refl
+set_answer_is s demands allowance room bytes = refl
 
 pub set_store_is : (s demands : List ℕ) (allowance : ℕ) (store : List ℕ) (bytes : ℕ)
     → set_store_after s demands allowance store bytes ≡ store_with (set_tests s demands (length store) bytes) s allowance store

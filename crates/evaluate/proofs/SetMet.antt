@@ -16,23 +16,23 @@ use Rattle.theory.specs.Sums.{Every}
 use Rattle.theory.specs.Structure.{Tree}
 use Rattle.theory.specs.Choices.{weight_where, belief, plausibility}
 use Rattle.theory.specs.Evaluation.{Evaluation, completed, refused}
-use Rattle.theory.proofs.Every.{every-split}
+use Rattle.theory.proofs.Every.{every_split}
 use Rattle.theory.proofs.Collect.{where_le, where_collect}
 use Rattle.numbers.specs.Numbers.{number_at}
 use Rattle.plan.specs.Tests.{first_broken, outside, Unbroken}
 use Rattle.plan.proofs.Tests.{within, beyond, not_outside}
 use Rattle.queries.specs.Shares.{shares_of, shares_bytes, encode_shares, encode_set, demand_tests}
-use Rattle.queries.proofs.Encoding.{length-set, belief-read, plausibility-read, at_place}
+use Rattle.queries.proofs.Encoding.{length-set, belief_read, plausibility_read, at_place}
 use Rattle.evaluate.specs.declared.SheetRun.{SheetRun}
 use Rattle.evaluate.specs.Answer.{sheet_outcomes, sheet_list, call_tests, ending, answer}
 use Rattle.evaluate.specs.Store.{store_after}
 use Rattle.evaluate.specs.SheetRun.{refused_run, sheet_run_of, ending_at, store_at, without_shares}
 use Rattle.evaluate.specs.Set.{set_tests, shares_by}
 use Rattle.evaluate.specs.Demands.{Passed, Demand-1, set_answered, set_store, shares_then, Place, demand_of, belief_of, plausibility_of, SetMet}
-use Rattle.evaluate.proofs.Finish.{drive_storable, shares-refused}
-use Rattle.evaluate.proofs.Numbers.{set-numbered, answer_is, store_is, set-answer_is, set_store_is, shares_is}
+use Rattle.evaluate.proofs.Finish.{drive_storable, shares_refused}
+use Rattle.evaluate.proofs.Numbers.{set_numbered, answer_is, store_is, set_answer_is, set_store_is, shares_is}
 use Rattle.evaluate.proofs.Demands.{end_number, passes, demand_1_of, number-own, same_number, Accepted, valid, demand_2_of, demand_3_of, number_by, run_by, zeros_by}
-use Rattle.evaluate.proofs.Demands.{RunFits64, refused-fits, answer-fits}
+use Rattle.evaluate.proofs.Demands.{RunFits64, refused_fits, answer_fits}
 
 module _ (s demands : List ℕ) (allowance : ℕ) (store shares : List ℕ) where
   abbrev room : ℕ
@@ -48,20 +48,20 @@ module _ (s demands : List ℕ) (allowance : ℕ) (store shares : List ℕ) wher
   count = length demands
 
   run_is : here ≡ sheet_run_of end s
-  run_is = set-answer_is s demands allowance room (length shares)
+  run_is = set_answer_is s demands allowance room (length shares)
 
   number_is : here.number ≡ end_number end
   number_is = ap (λ (r : SheetRun). r.number) run_is ∙ number_by end s 0
 
   first : Demand-1 (set_tests s demands room (length shares)) s allowance here.number store (set_store s demands allowance store shares)
-  first = demand_1_of (set_tests s demands room (length shares)) s allowance store (set-numbered s demands room (length shares)) number_is (set_store_is s demands allowance store (length shares))
+  first = demand_1_of (set_tests s demands room (length shares)) s allowance store (set_numbered s demands room (length shares)) number_is (set_store_is s demands allowance store (length shares))
 
   -- A refusal.
   zeros : (k : ℕ) → 0 < k → here.number ≡ k → here ≡ refused_run k
   zeros k h e = run_is ∙ ap without_shares (zeros_by k h end s 0 (sym number_is ∙ e))
 
-  shares-kept : (k : ℕ) → 0 < k → here.number ≡ k → shares_then s demands allowance store shares ≡ shares
-  shares-kept k h e = shares_is s demands allowance room shares ∙ sym (shares-refused s demands shares end run_is (λ z. omega arith))
+  shares_kept : (k : ℕ) → 0 < k → here.number ≡ k → shares_then s demands allowance store shares ≡ shares
+  shares_kept k h e = shares_is s demands allowance room shares ∙ sym (shares_refused s demands shares end run_is (λ z. omega arith))
 
   -- The bytes behind the last pair.
   later_by : (v : Evaluation Tree) → drop (shares_bytes * count) (shares_by v demands (sheet_outcomes s) shares) ≡ drop (shares_bytes * count) shares
@@ -129,7 +129,7 @@ module _ (s demands : List ℕ) (allowance : ℕ) (store shares : List ℕ) wher
 
     accepts : Accepted s allowance store here (set_store s demands allowance store shares)
     accepts = record {
-      unbroken = (every-split (call_tests s room) pass.unbroken).0;
+      unbroken = (every_split (call_tests s room) pass.unbroken).0;
       stack = pass.stack;
       pairs = pass.pairs;
       runs = pass.runs;
@@ -159,19 +159,19 @@ module _ (s demands : List ℕ) (allowance : ℕ) (store shares : List ℕ) wher
 
     beliefs : (p : Place demands) → belief_of s demands allowance store shares p ≡ belief (demand_of demands p) (sheet_outcomes s)
     beliefs (i, h) =
-        rw (add-zero (shares_bytes * i)) at (read_at 0 (λ low high. low) (λ d rest. belief-read (shares_of d (sheet_outcomes s)) rest) i h)
+        rw (add-zero (shares_bytes * i)) at (read_at 0 (λ low high. low) (λ d rest. belief_read (shares_of d (sheet_outcomes s)) rest) i h)
 
     plausibilities : (p : Place demands) → plausibility_of s demands allowance store shares p ≡ plausibility (demand_of demands p) (sheet_outcomes s)
-    plausibilities (i, h) = read_at 8 (λ low high. high) (λ d rest. plausibility-read (shares_of d (sheet_outcomes s)) rest) i h
+    plausibilities (i, h) = read_at 8 (λ low high. high) (λ d rest. plausibility_read (shares_of d (sheet_outcomes s)) rest) i h
 
-  pub set-met : SetMet s demands allowance store shares
-  set-met = record {
+  pub set_met : SetMet s demands allowance store shares
+  set_met = record {
     first = first;
     seventeen = seventeen;
     eighteen = eighteen;
     zeros = zeros;
-    shares-kept = shares-kept;
-    later-kept = ap (drop (shares_bytes * count)) (shares_is s demands allowance room shares) ∙ later_by end;
+    shares_kept = shares_kept;
+    later_kept = ap (drop (shares_bytes * count)) (shares_is s demands allowance room shares) ∙ later_by end;
     as_ordinary = as_ordinary;
     store_as_ordinary = store_as_ordinary;
     second = λ e. demand_2_of (accepts e) (beliefs e) (plausibilities e);
@@ -180,11 +180,11 @@ module _ (s demands : List ℕ) (allowance : ℕ) (store shares : List ℕ) wher
 
   -- ---- The answers fit 64 bits.
 
-  pub set-answer-fits : RunFits64 allowance here
-  set-answer-fits = elim (ℕ_discrete here.number 17) [
-    | yes e ↦ rw (zeros 17 (omega arith) e) (refused-fits allowance 17)
+  pub set_answer_fits : RunFits64 allowance here
+  set_answer_fits = elim (ℕ_discrete here.number 17) [
+    | yes e ↦ rw (zeros 17 (omega arith) e) (refused_fits allowance 17)
     | no n ↦ elim (ℕ_discrete here.number 18) [
-      | yes e ↦ rw (zeros 18 (omega arith) e) (refused-fits allowance 18)
-      | no m ↦ rw (as_ordinary n m 0) (answer-fits s 0 allowance store).run
+      | yes e ↦ rw (zeros 18 (omega arith) e) (refused_fits allowance 18)
+      | no m ↦ rw (as_ordinary n m 0) (answer_fits s 0 allowance store).run
     ]
   ]

@@ -14,14 +14,14 @@ use Rattle.theory.specs.Masses.{total}
 use Rattle.theory.specs.Structure.{Tree}
 use Rattle.theory.specs.Speed.{GreatestDemand, speed_for}
 use Rattle.theory.specs.Evaluation.{Evaluation, completed, refused}
-use Rattle.theory.proofs.Every.{every_map, every-split}
-use Rattle.theory.proofs.Totals.{total-positive}
+use Rattle.theory.proofs.Every.{every_map, every_split}
+use Rattle.theory.proofs.Totals.{total_positive}
 use Rattle.theory.proofs.Speed.{speed_most, speed_greatest, greatest_one}
 use Rattle.theory.specs.Sums.{Every}
 use Rattle.plan.specs.Tests.{first_broken, outside, Unbroken}
 use Rattle.plan.specs.Valid.{Valid}
 use Rattle.plan.proofs.Tests.{beyond}
-use Rattle.plan.proofs.Numbers.{none-broken}
+use Rattle.plan.proofs.Numbers.{none_broken}
 use Rattle.queries.specs.Speed.{target_tests}
 use Rattle.evaluate.specs.declared.Answer.{Answer}
 use Rattle.evaluate.specs.declared.SpeedAnswer.{SpeedAnswer}
@@ -32,7 +32,7 @@ use Rattle.evaluate.specs.Speed.{speed_tests, speed_by, speed_store_after}
 use Rattle.evaluate.specs.Demands.{Passed, Demand-1, speed_answered, belief_at, SpeedMet}
 use Rattle.evaluate.proofs.Numbers.{speed_numbered, answer_is, store_is, speed_answer_is, speed_store_is}
 use Rattle.evaluate.proofs.Finish.{drive_fits, ready, target_inside}
-use Rattle.evaluate.proofs.Demands.{end_number, passes, demand_1_of, number-own, same_number, number_by, zeros_by, demand_2, Fits64, refusal-fits, answer-fits}
+use Rattle.evaluate.proofs.Demands.{end_number, passes, demand_1_of, number-own, same_number, number_by, zeros_by, demand_2, Fits64, refusal_fits, answer_fits}
 
 -- The greatest demand, of equal beliefs over an equal whole.
 greatest_of : {target v w : ℕ} {f g : ℕ → ℕ} {speed : ℕ} → v ≡ w → ((d : ℕ) → f d ≡ g d) → GreatestDemand target v f speed → GreatestDemand target w g speed
@@ -72,9 +72,9 @@ module _ (s : List ℕ) (target allowance : ℕ) (store : List ℕ) where
   no_speed (completed stack pairs) k h e = absurd (omega arith)
 
   -- Its own test has the number 16 where it is broken.
-  own-broken : (b : Bool) → (◌≡◌ {A = ℕ} (cond b 16 0) 16) ↔ (b ≡ true)
-  own-broken true = (λ e. refl, λ e. refl)
-  own-broken false = (λ e. absurd (omega arith), λ e. absurd (false≢true e))
+  own_broken : (b : Bool) → (◌≡◌ {A = ℕ} (cond b 16 0) 16) ↔ (b ≡ true)
+  own_broken true = (λ e. refl, λ e. refl)
+  own_broken false = (λ e. absurd (omega arith), λ e. absurd (false≢true e))
 
   own_only : (b : Bool) (k : ℕ) → 0 < k → cond b 16 0 ≡ k → k ≡ 16
   own_only true k h e = sym e
@@ -101,7 +101,7 @@ module _ (s : List ℕ) (target allowance : ℕ) (store : List ℕ) where
     pass = first.accepted.0 e
 
     valid : Valid (plan_of s)
-    valid = (ready s store (none-broken (every-split (call_tests s room) pass.unbroken).0)).valid
+    valid = (ready s store (none_broken (every_split (call_tests s room) pass.unbroken).0)).valid
 
     list_speed : here.speed ≡ speed_for target (total (components s)) (sheet_list s)
     list_speed =
@@ -112,24 +112,24 @@ module _ (s : List ℕ) (target allowance : ℕ) (store : List ℕ) where
     greatest =
         let second = demand_2 s here.speed allowance store (ap (λ (a : Answer). a.number) (sym (as_ordinary not_16)) ∙ e) in
         let whole : here.answer.total ≡ total (components s) = ap (λ (a : Answer). a.total) (as_ordinary not_16) ∙ second.total_is in
-        let sum : weights (sheet_list s) ≡ total (components s) = second.list-weights ∙ second.total_is in
-        let inside = target_inside (every-split (call_tests s room) pass.unbroken).1 in
-        let above : 0 < target * total (components s) = mul-pos inside.0 (total-positive (every_map (λ c t. t.0) valid.totals)) in
+        let sum : weights (sheet_list s) ≡ total (components s) = second.list_weights ∙ second.total_is in
+        let inside = target_inside (every_split (call_tests s room) pass.unbroken).1 in
+        let above : 0 < target * total (components s) = mul-pos inside.0 (total_positive (every_map (λ c t. t.0) valid.totals)) in
         rw list_speed
-        (greatest_of (sym whole) second.list-belief
-        (speed_greatest target (total (components s)) above second.list-ordered (rw sum (mul-le-mul_right (total (components s)) inside.1))))
+        (greatest_of (sym whole) second.list_belief
+        (speed_greatest target (total (components s)) above second.list_ordered (rw sum (mul-le-mul_right (total (components s)) inside.1))))
 
   sixteen : (here.answer.number ≡ 16) ↔ (Every Unbroken (call_tests s room) × ((target < 1) ⊎ (thousandths < target)))
   sixteen =
       let own = number-own s allowance store (target_tests target) first 16 (omega arith) refl refl in
-      let b = own-broken (outside 1 thousandths target) in
+      let b = own_broken (outside 1 thousandths target) in
       let o = beyond 1 thousandths target in
       (λ e. ((own.0 e).0, o.0 (b.0 (own.0 e).1)), λ (u, h). own.1 (u, b.1 (o.1 h)))
 
   speed_small : here.speed ≤ top_speed
   speed_small = elim (ℕ_discrete here.answer.number 0) [
     | yes e ↦
-        let most = speed_most target (total (components s)) top_speed (every_map (λ f h. omega (arith, h.low-high, h.below)) (drive_fits (valid e)).speeds) in
+        let most = speed_most target (total (components s)) top_speed (every_map (λ f h. omega (arith, h.low_high, h.below)) (drive_fits (valid e)).speeds) in
         omega (arith, list_speed e, most)
     | no n ↦ omega (arith, speed_is, no_speed end here.answer.number (omega arith) (sym number_is))
   ]
@@ -149,8 +149,8 @@ module _ (s : List ℕ) (target allowance : ℕ) (store : List ℕ) where
 
   -- ---- The other answers fit 64 bits.
 
-  pub speed_answer-fits : Fits64 allowance here.answer
-  speed_answer-fits = elim (ℕ_discrete here.answer.number 16) [
-    | yes e ↦ rw (zeros 16 (omega arith) e) (refusal-fits allowance 16)
-    | no n ↦ rw (as_ordinary n) (answer-fits s here.speed allowance store)
+  pub speed_answer_fits : Fits64 allowance here.answer
+  speed_answer_fits = elim (ℕ_discrete here.answer.number 16) [
+    | yes e ↦ rw (zeros 16 (omega arith) e) (refusal_fits allowance 16)
+    | no n ↦ rw (as_ordinary n) (answer_fits s here.speed allowance store)
   ]

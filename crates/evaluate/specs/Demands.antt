@@ -64,10 +64,10 @@ module _ {I : Type 0} (s : List ℕ) (allowance : ℕ) (answered : SheetRun) (af
   pub record Demand-2 : Type 0 where
     -- Each component's mass assignment has up to nine focal elements, each once, so that none is chosen twice; their weights add to T; and the rest
     -- is one of them or added to one.
-    pub masses-most : Every (λ c. length (masses c) ≤ most_masses) (components s)
+    pub masses_most : Every (λ c. length (masses c) ≤ most_masses) (components s)
     pub masses_once : AllDistinct (components s)
-    pub masses-whole : Balanced (components s)
-    pub masses-rest : Every RestAdded (components s)
+    pub masses_whole : Balanced (components s)
+    pub masses_rest : Every RestAdded (components s)
     -- The answers are those of the sum over all choices, the shares at every demand.
     pub total_is : answered.total ≡ total (components s)
     pub belief_is : (i : I) → belief_at i ≡ belief (demand_at i) (sheet_outcomes s)
@@ -76,23 +76,23 @@ module _ {I : Type 0} (s : List ℕ) (allowance : ℕ) (answered : SheetRun) (af
     pub belief_antitone : Antitone demand_at belief_at
     pub plausibility_antitone : Antitone demand_at plausibility_at
     -- U is at most 10 to the 18th.
-    pub total-most : answered.total ≤ most_total ^ most_components
+    pub total_most : answered.total ≤ most_total ^ most_components
     -- Each outcome is the least interval that has all speeds of its choice (source 002, definition 2.3).
     pub spans : Every (Spans (structure s)) (choices (components s))
     -- The list in the store is the drive's: it is read back from there.
     pub list_length : answered.intervals ≡ length (sheet_list s)
     pub list_read : records answered.intervals after ≡ sheet_list s
     -- It is in order, has no weight 0, and has at each interval the weights of the outcomes that are this interval: U in all.
-    pub list-ordered : InOrder (sheet_list s)
-    pub list-positive : Every Positive (sheet_list s)
-    pub list-weight : (low high : ℕ) → weight_at low high (sheet_list s) ≡ weight_at low high (sheet_outcomes s)
-    pub list-weights : weights (sheet_list s) ≡ answered.total
+    pub list_ordered : InOrder (sheet_list s)
+    pub list_positive : Every Positive (sheet_list s)
+    pub list_weight : (low high : ℕ) → weight_at low high (sheet_list s) ≡ weight_at low high (sheet_outcomes s)
+    pub list_weights : weights (sheet_list s) ≡ answered.total
     -- Its shares are the answers, at every demand.
-    pub list-belief : (i : I) → belief (demand_at i) (sheet_list s) ≡ belief_at i
-    pub list-plausibility : (i : I) → plausibility (demand_at i) (sheet_list s) ≡ plausibility_at i
+    pub list_belief : (i : I) → belief (demand_at i) (sheet_list s) ≡ belief_at i
+    pub list_plausibility : (i : I) → plausibility (demand_at i) (sheet_list s) ≡ plausibility_at i
     -- Each sub-structure's list, a leaf's and a join's, is in order, and its weights add to the product of the totals under it.
-    pub lists-ordered : (t : Tree) → InOrder (list_of (components s) t)
-    pub lists-weights : (t : Tree) → weights (list_of (components s) t) ≡ total_of (components s) t
+    pub lists_ordered : (t : Tree) → InOrder (list_of (components s) t)
+    pub lists_weights : (t : Tree) → weights (list_of (components s) t) ≡ total_of (components s) t
     -- No speed of the drive's list or of any sub-structure's is above 4,095, so nothing meets a demand above it.
     pub list_in_range : Every InRange (sheet_list s)
     pub lists_in_range : (t : Tree) → Every InRange (list_of (components s) t)
@@ -101,7 +101,7 @@ module _ {I : Type 0} (s : List ℕ) (allowance : ℕ) (answered : SheetRun) (af
     pub tree : Tree
     pub built : trees (structure s) ≡ tree ∷ []
     pub pairs_are : answered.pairs ≡ pair_count (components s) tree
-    pub pairs-most : answered.pairs ≤ allowance
+    pub pairs_most : answered.pairs ≤ allowance
 
 -- Demand 3, for every accepted call on a sheet s: belief and plausibility, at each demand that is asked, over the total answered, bound the
 -- share of every division and are met.
@@ -187,9 +187,9 @@ module _ (s demands : List ℕ) (allowance : ℕ) (store shares : List ℕ) wher
     pub eighteen : (set_answered.number ≡ 18)
         ↔ (Every Unbroken (call_tests s (length store)) × ((1 ≤ length demands) × (length demands ≤ most_demands)) × (length shares < shares_bytes * length demands))
     pub zeros : (k : ℕ) → 0 < k → set_answered.number ≡ k → set_answered ≡ refused_run k
-    pub shares-kept : (k : ℕ) → 0 < k → set_answered.number ≡ k → shares_then ≡ shares
+    pub shares_kept : (k : ℕ) → 0 < k → set_answered.number ≡ k → shares_then ≡ shares
     -- The bytes behind the last pair are as they were.
-    pub later-kept : drop (shares_bytes * length demands) shares_then ≡ drop (shares_bytes * length demands) shares
+    pub later_kept : drop (shares_bytes * length demands) shares_then ≡ drop (shares_bytes * length demands) shares
     -- But for 17 and 18 the answers and the store are those of an ordinary call, at any demand.
     pub as_ordinary : (set_answered.number ≡ 17 → ⊥) → (set_answered.number ≡ 18 → ⊥) → (d : ℕ) → set_answered ≡ without_shares (answer s d allowance (length store))
     pub store_as_ordinary : (set_answered.number ≡ 17 → ⊥) → (set_answered.number ≡ 18 → ⊥) → set_store ≡ store_after s allowance store
@@ -222,13 +222,13 @@ module _ (p : Plan) (buffer : List ℕ) where
     pub accepted : (result.number ≡ 0) ↔ Every Unbroken (writer_tests p (length buffer))
     pub refused_by : (k : ℕ) → 0 < k → (result.number ≡ k) ↔ First (writer_tests p (length buffer)) k
     pub nothing_written : (k : ℕ) → 0 < k → result.number ≡ k → (result.length ≡ 0) × (bytes_after p buffer ≡ buffer)
-    pub rest-kept : result.number ≡ 0 → drop result.length (bytes_after p buffer) ≡ drop result.length buffer
+    pub rest_kept : result.number ≡ 0 → drop result.length (bytes_after p buffer) ≡ drop result.length buffer
     pub longest : result.number ≡ 0 → result.length ≤ 224
     pub ignores_unused : IgnoresUnused p buffer
 
 -- Demand 2, the sheets: a written sheet reads as its plan, in the used places, and a read one, of bytes, is written back to its bytes.
 pub record RoundTrips : Type 0 where
-  pub written-reads : (p : Plan) (buffer : List ℕ) → (result p buffer).number ≡ 0
+  pub written_reads : (p : Plan) (buffer : List ℕ) → (result p buffer).number ≡ 0
       → read_of (take (result p buffer).length (bytes_after p buffer)) ≡ record { number = 0; plan = cleaned_plan p }
   pub read_writes : (s buffer : List ℕ) → Bytes s → Bytes buffer → (read_of s).number ≡ 0 → length s ≤ length buffer
       → (result (plan_of s) buffer ≡ record { number = 0; length = length s }) × (bytes_after (plan_of s) buffer ≡ s ++ drop (length s) buffer)

@@ -9,7 +9,7 @@ use lib.ListN.{length, get_or}
 use lib.Dec.{lit<, lit≤}
 use lib.Pow.{high, low, shr-shr, pow_mono}
 use Rattle.numbers.specs.Numbers.{Bytes, onto, number_at}
-use Rattle.numbers.proofs.Numbers.{number-next}
+use Rattle.numbers.proofs.Numbers.{number_next}
 use Rattle.field.specs.Bits.{bit, field_at, window_at}
 
 pub bit_lt : (s : List ℕ) (j : ℕ) → bit s j < 2
@@ -74,7 +74,7 @@ field_more s m n h =
 pub number_field : (s : List ℕ) (a n : ℕ) → Bytes s → a + n ≤ length s → number_at s a n ≡ field_at s (8 * a) (8 * n)
 unfolding onto field_at
 number_field s a zero b h = refl
-number_field s a (suc n) b h = rw (← add-one n) (number-next s a n (omega arith) ∙ rw (number_field s a n b (omega arith)) (sym (field_more s a n (b (a + n)))))
+number_field s a (suc n) b h = rw (← add-one n) (number_next s a n (omega arith) ∙ rw (number_field s a n b (omega arith)) (sym (field_more s a n (b (a + n)))))
 
 -- The window of w bits at bit a, out of the bytes that it stands in.
 pub window_out : (s : List ℕ) (a w : ℕ)

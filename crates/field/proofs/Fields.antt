@@ -14,25 +14,25 @@ use Rattle.field.proofs.Field.{bit_lt, field_lt}
 use Rattle.field.proofs.Put.{length_put_at, put_at_other, put_at_same, put_at_bytes, field_ext}
 
 -- Two rows, one behind the other.
-pub width-append : (fs gs : List Field) → width_of (fs ++ gs) ≡ width_of fs + width_of gs
+pub width_append : (fs gs : List Field) → width_of (fs ++ gs) ≡ width_of fs + width_of gs
 unfolding width_of
-width-append [] gs = sym (zero-add (width_of gs))
-width-append (f ∷ fs) gs = rw (width-append fs gs, add_assoc)
+width_append [] gs = sym (zero-add (width_of gs))
+width_append (f ∷ fs) gs = rw (width_append fs gs, add_assoc)
 
 pub fitting_append : (fs gs : List Field) → Fitting fs → Fitting gs → Fitting (fs ++ gs)
 unfolding Fitting
 fitting_append [] gs h k = k
 fitting_append (f ∷ fs) gs h k = (h.0, fitting_append fs gs h.1 k)
 
-pub holds-append : (s : List ℕ) (a : ℕ) (fs gs : List Field) → Holds s a fs → Holds s (a + width_of fs) gs → Holds s a (fs ++ gs)
+pub holds_append : (s : List ℕ) (a : ℕ) (fs gs : List Field) → Holds s a fs → Holds s (a + width_of fs) gs → Holds s a (fs ++ gs)
 unfolding Holds width_of
-holds-append s a [] gs h k = rw add-zero at k
-holds-append s a (f ∷ fs) gs h k = (h.0, holds-append s (a + f.width) fs gs h.1 (rw (add_assoc a f.width (width_of fs)) k))
+holds_append s a [] gs h k = rw add-zero at k
+holds_append s a (f ∷ fs) gs h k = (h.0, holds_append s (a + f.width) fs gs h.1 (rw (add_assoc a f.width (width_of fs)) k))
 
-pub holds-left : (s : List ℕ) (a : ℕ) (fs gs : List Field) → Holds s a (fs ++ gs) → Holds s a fs
+pub holds_left : (s : List ℕ) (a : ℕ) (fs gs : List Field) → Holds s a (fs ++ gs) → Holds s a fs
 unfolding Holds
-holds-left s a [] gs h = tt
-holds-left s a (f ∷ fs) gs h = (h.0, holds-left s (a + f.width) fs gs h.1)
+holds_left s a [] gs h = tt
+holds_left s a (f ∷ fs) gs h = (h.0, holds_left s (a + f.width) fs gs h.1)
 
 pub holds_right : (s : List ℕ) (a : ℕ) (fs gs : List Field) → Holds s a (fs ++ gs) → Holds s (a + width_of fs) gs
 unfolding Holds width_of
@@ -91,12 +91,12 @@ field_inj s t a (suc w) e j p q =
     ]
 
 -- The same fields, the same bits.
-pub holds-bits : (s t : List ℕ) (a : ℕ) (fs : List Field) → Holds s a fs → Holds t a fs → (j : ℕ) → a ≤ j → j < a + width_of fs → bit s j ≡ bit t j
+pub holds_bits : (s t : List ℕ) (a : ℕ) (fs : List Field) → Holds s a fs → Holds t a fs → (j : ℕ) → a ≤ j → j < a + width_of fs → bit s j ≡ bit t j
 unfolding Holds width_of
-holds-bits s t a [] h k j p q = absurd (omega arith)
-holds-bits s t a (f ∷ fs) h k j p q = elim (dec_lt j (a + f.width)) [
+holds_bits s t a [] h k j p q = absurd (omega arith)
+holds_bits s t a (f ∷ fs) h k j p q = elim (dec_lt j (a + f.width)) [
   | yes x ↦ field_inj s t a f.width (h.0 ∙ sym k.0) j p x
-  | no x ↦ holds-bits s t (a + f.width) fs h.1 k.1 j (omega arith) (omega arith)
+  | no x ↦ holds_bits s t (a + f.width) fs h.1 k.1 j (omega arith) (omega arith)
 ]
 
 -- Bits, fields and rows of fields in the rest of a list from byte m.
@@ -112,10 +112,10 @@ unfolding field_at
 field_drop s m a zero = refl
 field_drop s m a (suc w) = rw (field_drop s m a w, bit-drop s m (a + w), add_assoc (8 * m) a w)
 
-pub holds-drop : (s : List ℕ) (m a : ℕ) (fs : List Field) → Holds s (8 * m + a) fs → Holds (drop m s) a fs
+pub holds_drop : (s : List ℕ) (m a : ℕ) (fs : List Field) → Holds s (8 * m + a) fs → Holds (drop m s) a fs
 unfolding Holds
-holds-drop s m a [] h = tt
-holds-drop s m a (f ∷ fs) h = (field_drop s m a f.width ∙ h.0, holds-drop s m (a + f.width) fs (rw add_assoc at h.1))
+holds_drop s m a [] h = tt
+holds_drop s m a (f ∷ fs) h = (field_drop s m a f.width ∙ h.0, holds_drop s m (a + f.width) fs (rw add_assoc at h.1))
 
 pub holds_undrop : (s : List ℕ) (m a : ℕ) (fs : List Field) → Holds (drop m s) a fs → Holds s (8 * m + a) fs
 unfolding Holds
@@ -129,14 +129,14 @@ holds_fitting s a [] h = tt
 holds_fitting s a (f ∷ fs) h = (rw (← h.0) (field_lt s a f.width), holds_fitting s (a + f.width) fs h.1)
 
 -- Bytes behind the fields stay.
-set_bit-rest : (s : List ℕ) (j b n : ℕ) → j < 8 * n → drop n (set_bit s j b) ≡ drop n s
+set_bit_rest : (s : List ℕ) (j b n : ℕ) → j < 8 * n → drop n (set_bit s j b) ≡ drop n s
 unfolding set_bit
-set_bit-rest s j b n h = drop-set-lt n s (j / 8) _ (omega arith)
+set_bit_rest s j b n h = drop-set-lt n s (j / 8) _ (omega arith)
 
 put_at_rest : (s : List ℕ) (a w v n : ℕ) → a + w ≤ 8 * n → drop n (put_at s a w v) ≡ drop n s
 unfolding put_at
 put_at_rest s a zero v n h = refl
-put_at_rest s a (suc w) v n h = set_bit-rest (put_at s a w (v / 2)) (a + w) (v % 2) n (omega arith) ∙ put_at_rest s a w (v / 2) n (omega arith)
+put_at_rest s a (suc w) v n h = set_bit_rest (put_at s a w (v / 2)) (a + w) (v % 2) n (omega arith) ∙ put_at_rest s a w (v / 2) n (omega arith)
 
 pub put_all_rest : (s : List ℕ) (a : ℕ) (fs : List Field) (n : ℕ) → a + width_of fs ≤ 8 * n → drop n (put_all s a fs) ≡ drop n s
 unfolding put_all width_of

@@ -41,8 +41,8 @@ bit_below x k i h =
     sym (field x 1 i) ∙ ap (λ (n : ℕ). n / 2 ^ i) (sym (ap (λ (n : ℕ). x % 2 ^ n % 2 ^ (1 + i)) e ∙ mod-mod-pow x (k - (1 + i)) (1 + i)))
 
 -- A bit above k, of what stands above k.
-bit-above : (x k i : ℕ) → k < i → x / 2 ^ i ≡ x / 2 ^ k / 2 / 2 ^ (i - (k + 1))
-bit-above x k i h =
+bit_above : (x k i : ℕ) → k < i → x / 2 ^ i ≡ x / 2 ^ k / 2 / 2 ^ (i - (k + 1))
+bit_above x k i h =
     let e : i ≡ k + 1 + (i - (k + 1)) = omega arith in
     ap (λ (n : ℕ). x / 2 ^ n) e ∙ sym (shr-shr x (k + 1) (i - (k + 1))) ∙ ap (λ (n : ℕ). n / 2 ^ (i - (k + 1))) (sym (shr-shr x k 1))
 
@@ -50,8 +50,8 @@ pub put_other : (x k b i : ℕ) → b < 2 → i ≢ k → with_bit x (2 ^ k) b /
 put_other x k b i hb ne = elim (dec_lt i k) [
   | yes h ↦ bit_below (with_bit x (2 ^ k) b) k i h ∙ ap (λ (n : ℕ). n % 2 ^ (1 + i) / 2 ^ i) (put_low x k b hb) ∙ sym (bit_below x k i h)
   | no h ↦
-      ap (λ (n : ℕ). n % 2) (bit-above (with_bit x (2 ^ k) b) k i (omega arith)
-      ∙ ap (λ (n : ℕ). n / 2 ^ (i - (k + 1))) (put_above x k b hb) ∙ sym (bit-above x k i (omega arith)))
+      ap (λ (n : ℕ). n % 2) (bit_above (with_bit x (2 ^ k) b) k i (omega arith)
+      ∙ ap (λ (n : ℕ). n / 2 ^ (i - (k + 1))) (put_above x k b hb) ∙ sym (bit_above x k i (omega arith)))
 ]
 
 -- A bit's part of x.
@@ -82,16 +82,16 @@ unfolding set_bit
 length-set_bit s j b = simp length-set
 
 -- The bit that was set.
-pub set_bit-same : (s : List ℕ) (j b : ℕ) → j < 8 * length s → b < 2 → bit (set_bit s j b) j ≡ b
+pub set_bit_same : (s : List ℕ) (j b : ℕ) → j < 8 * length s → b < 2 → bit (set_bit s j b) j ≡ b
 unfolding bit set_bit
-set_bit-same s j b h hb =
+set_bit_same s j b h hb =
     let i : j / 8 < length s = omega arith in
     rw get_or-set_same (put_bit (get_or s (j / 8) 0) (7 - j % 8) b hb)
 
 -- Every other bit stays.
-pub set_bit-other : (s : List ℕ) (j b i : ℕ) → j < 8 * length s → b < 2 → i ≢ j → bit (set_bit s j b) i ≡ bit s i
+pub set_bit_other : (s : List ℕ) (j b i : ℕ) → j < 8 * length s → b < 2 → i ≢ j → bit (set_bit s j b) i ≡ bit s i
 unfolding bit set_bit
-set_bit-other s j b i h hb ne = elim (ℕ_discrete (i / 8) (j / 8)) [
+set_bit_other s j b i h hb ne = elim (ℕ_discrete (i / 8) (j / 8)) [
   | yes e ↦
       let l : j / 8 < length s = omega arith in
       let k : 7 - i % 8 ≢ 7 - j % 8 = omega arith in
@@ -100,9 +100,9 @@ set_bit-other s j b i h hb ne = elim (ℕ_discrete (i / 8) (j / 8)) [
 ]
 
 -- Bytes stay bytes.
-pub set_bit-bytes : (s : List ℕ) (j b : ℕ) → j < 8 * length s → b < 2 → Bytes s → Bytes (set_bit s j b)
+pub set_bit_bytes : (s : List ℕ) (j b : ℕ) → j < 8 * length s → b < 2 → Bytes s → Bytes (set_bit s j b)
 unfolding set_bit
-set_bit-bytes s j b h hb B i = elim (ℕ_discrete i (j / 8)) [
+set_bit_bytes s j b h hb B i = elim (ℕ_discrete i (j / 8)) [
   | yes e ↦
       let l : j / 8 < length s = omega arith in
       rw (e, get_or-set_same) (put_lt (get_or s (j / 8) 0) (7 - j % 8) b hb (omega arith) (B (j / 8)))
@@ -150,7 +150,7 @@ pub put_at_other : (s : List ℕ) (a w v j : ℕ) → a + w ≤ 8 * length s →
 unfolding put_at
 put_at_other s a zero v j h out = refl
 put_at_other s a (suc w) v j h out =
-    set_bit-other (put_at s a w (v / 2)) (a + w) (v % 2) j (room s a w (v / 2) h) (omega arith) (λ e. out (omega arith) (omega arith))
+    set_bit_other (put_at s a w (v / 2)) (a + w) (v % 2) j (room s a w (v / 2) h) (omega arith) (λ e. out (omega arith) (omega arith))
     ∙ put_at_other s a w (v / 2) j (omega arith) (λ p q. out p (omega arith))
 
 -- Equal bits spell equal fields.
@@ -168,9 +168,9 @@ put_at_same s a (suc w) v h hv =
     let r = room s a w (v / 2) h in
     rw (
       field_ext (set_bit (put_at s a w (v / 2)) (a + w) (v % 2)) (put_at s a w (v / 2)) a w
-          (λ j p q. set_bit-other (put_at s a w (v / 2)) (a + w) (v % 2) j r (omega arith) (omega arith)),
+          (λ j p q. set_bit_other (put_at s a w (v / 2)) (a + w) (v % 2) j r (omega arith) (omega arith)),
       put_at_same s a w (v / 2) (omega arith) u,
-      set_bit-same (put_at s a w (v / 2)) (a + w) (v % 2) r (omega arith),
+      set_bit_same (put_at s a w (v / 2)) (a + w) (v % 2) r (omega arith),
     )
     (omega arith)
 
@@ -179,7 +179,7 @@ pub put_at_bytes : (s : List ℕ) (a w v : ℕ) → a + w ≤ 8 * length s → B
 unfolding put_at
 put_at_bytes s a zero v h B = B
 put_at_bytes s a (suc w) v h B =
-    set_bit-bytes (put_at s a w (v / 2)) (a + w) (v % 2) (room s a w (v / 2) h) (omega arith) (put_at_bytes s a w (v / 2) (omega arith) B)
+    set_bit_bytes (put_at s a w (v / 2)) (a + w) (v % 2) (room s a w (v / 2) h) (omega arith) (put_at_bytes s a w (v / 2) (omega arith) B)
 
 -- Bytes are known by their bits.
 pub bits_ext : (s t : List ℕ) → length s ≡ length t → Bytes s → Bytes t → ((j : ℕ) → j < 8 * length s → bit s j ≡ bit t j) → s ≡ t

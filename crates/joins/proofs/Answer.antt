@@ -14,24 +14,24 @@ use Rattle.joins.specs.declared.Joined.{Joined}
 use Rattle.joins.specs.declared.Joined.TheVariants.{Made, Full}
 use Rattle.joins.specs.Filling.{Filled, fill}
 use Rattle.joins.specs.Joins.{joined_as, join_number, join_length, number_of_join, length_of_join}
-use Rattle.joins.proofs.Filling.{fits_or_over, fill-all, fill_over}
+use Rattle.joins.proofs.Filling.{fits_or_over, fill_all, fill_over}
 
 module _ (ps : List Focal) where
-  pub fill-made : length (collect ps) ≤ most_intervals → fill [] ps ≡ record { list = collect ps; count = length (collect ps) }
-  fill-made h =
-      fill-all [] ps (rw insert_all-collect h) ∙ ap (λ (l : List Focal). record { list = l; count = length l }) (insert_all-collect ps)
+  pub fill_made : length (collect ps) ≤ most_intervals → fill [] ps ≡ record { list = collect ps; count = length (collect ps) }
+  fill_made h =
+      fill_all [] ps (rw insert_all-collect h) ∙ ap (λ (l : List Focal). record { list = l; count = length l }) (insert_all-collect ps)
 
-  fill-full : most_intervals < length (collect ps) → (fill [] ps).count ≡ 257
-  fill-full h = fill_over [] ps (omega arith) (rw insert_all-collect h)
+  fill_full : most_intervals < length (collect ps) → (fill [] ps).count ≡ 257
+  fill_full h = fill_over [] ps (omega arith) (rw insert_all-collect h)
 
   pub made : (n : ℕ) → n ≡ (fill [] ps).count → n ≤ most_intervals → Made n ≡ joined_as (collect ps)
   made n e h =
-      ⊎_elim (λ k. rw (le-leb (length (collect ps)) most_intervals k) (ap Made (e ∙ ap (λ (f : Filled). f.count) (fill-made k))))
-      (λ k. absurd (omega (arith, fill-full k))) (fits_or_over (length (collect ps)))
+      ⊎_elim (λ k. rw (le-leb (length (collect ps)) most_intervals k) (ap Made (e ∙ ap (λ (f : Filled). f.count) (fill_made k))))
+      (λ k. absurd (omega (arith, fill_full k))) (fits_or_over (length (collect ps)))
 
   pub full : (n : ℕ) → n ≡ (fill [] ps).count → most_intervals < n → Full ≡ joined_as (collect ps)
   full n e h =
-      ⊎_elim (λ k. absurd (omega (arith, ap (λ (f : Filled). f.count) (fill-made k)))) (λ k. rw (lt-leb (length (collect ps)) most_intervals k))
+      ⊎_elim (λ k. absurd (omega (arith, ap (λ (f : Filled). f.count) (fill_made k)))) (λ k. rw (lt-leb (length (collect ps)) most_intervals k))
       (fits_or_over (length (collect ps)))
 
 -- An answer has its number and its length.

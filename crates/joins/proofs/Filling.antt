@@ -12,8 +12,8 @@ use Rattle.theory.specs.Sums.{Every}
 use Rattle.theory.specs.Focal.{Focal, weights}
 use Rattle.theory.specs.Order.{InOrder, inserted}
 use Rattle.theory.specs.Limits.{most_intervals}
-use Rattle.theory.proofs.Sums.{sum-append}
-use Rattle.theory.proofs.Every.{every-split}
+use Rattle.theory.proofs.Sums.{sum_append}
+use Rattle.theory.proofs.Every.{every_split}
 use Rattle.theory.proofs.Collect.{weights_insert, order_insert}
 use Rattle.theory.proofs.Lists.{length_insert, insert_all}
 use Rattle.records.specs.declared.Insertion.{Insertion}
@@ -22,7 +22,7 @@ use Rattle.records.specs.Store.{holding}
 use Rattle.records.specs.Insertion.{insertion_of, insert_or_stay, Insertable}
 use Rattle.records.proofs.Store.{holding_over}
 use Rattle.joins.specs.Filling.{Filled, fill}
-use Rattle.joins.proofs.Holding.{Held, view, insertable, held-count, held-step, held-stop, insert_under}
+use Rattle.joins.proofs.Holding.{Held, view, insertable, held_count, held_step, held_stop, insert_under}
 
 -- ---- a fill goes on, or it stops
 
@@ -119,12 +119,12 @@ module _ {out₀ out : List ℕ} {m : ℕ} {p : Focal} {rest : List Focal} {g : 
   module _ {x : Focal} (q : x ≡ p) {e : List ℕ} {r : Insertion}
       (ensures : (r ≡ insertion_of x (records m out)) × (e ≡ holding out (insert_or_stay x (records m out)))) where
     count : r.count ≡ length (inserted p f.acc)
-    count = held-count f.held under_now fits_now q ensures
+    count = held_count f.held under_now fits_now q ensures
 
     pub filling_step : r.count ≤ most_intervals → Filling out₀ e r.count rest g
     filling_step h = record {
       acc = inserted p f.acc;
-      held = held-step f.held under_now fits_now q ensures h;
+      held = held_step f.held under_now fits_now q ensures h;
       under = every_tail f.under;
       fits = omega (arith, f.fits, weights_insert p f.acc);
       goal = sym (fill_goes f.acc p rest (omega (arith, count))) ∙ f.goal;
@@ -133,34 +133,34 @@ module _ {out₀ out : List ℕ} {m : ℕ} {p : Focal} {rest : List Focal} {g : 
     pub filling_stop : most_intervals < r.count → Done out₀ e r.count g
     filling_stop h =
         let ge : record { list = f.acc; count = length (inserted p f.acc) } ≡ g = sym (fill_stops f.acc p rest (omega (arith, count))) ∙ f.goal in
-        (count ∙ ap (λ (x : Filled). x.count) ge, held-stop f.held under_now fits_now q ensures h ∙ ap (λ (x : Filled). holding out₀ x.list) ge)
+        (count ∙ ap (λ (x : Filled). x.count) ge, held_stop f.held under_now fits_now q ensures h ∙ ap (λ (x : Filled). holding out₀ x.list) ge)
 
 -- A row of intervals goes in.
 module _ {out₀ out : List ℕ} {m : ℕ} (xs rest : List Focal) {g : Filled} (f : Filling out₀ out m (xs ++ rest) g) where
-  pub row-insertable : Insertable out m (weights xs)
-  row-insertable = insertable f.held (weights xs) (omega (arith, f.fits, sum-append (λ (x : Focal). x.weight) xs rest))
+  pub row_insertable : Insertable out m (weights xs)
+  row_insertable = insertable f.held (weights xs) (omega (arith, f.fits, sum_append (λ (x : Focal). x.weight) xs rest))
 
   row_under : Every (Under speed_limit) xs
-  row_under = (every-split xs f.under).0
+  row_under = (every_split xs f.under).0
 
   module _ {e : List ℕ} {n : ℕ}
       (ensures : (n ≡ (fill (records m out) xs).count) × (e ≡ holding out (fill (records m out) xs).list)) where
     row_count : n ≡ (fill f.acc xs).count
     row_count = ensures.0 ∙ ap (λ (l : List Focal). (fill l xs).count) (view f.held)
 
-    row-bytes : e ≡ holding out₀ (fill f.acc xs).list
-    row-bytes =
+    row_bytes : e ≡ holding out₀ (fill f.acc xs).list
+    row_bytes =
         ensures.1 ∙ (λ k. holding (f.held.bytes k) (fill (view f.held k) xs).list) ∙ holding_over out₀ f.acc (fill f.acc xs).list (grown f.acc xs).longer
 
     pub filling_row : n ≤ most_intervals → Filling out₀ e n rest g
     filling_row h =
         let k : Grown f.acc xs (fill f.acc xs) = grown f.acc xs in
         let c : (fill f.acc xs).count ≤ most_intervals = omega (arith, row_count) in
-        let w : weights (xs ++ rest) ≡ weights xs + weights rest = sum-append (λ (x : Focal). x.weight) xs rest in
+        let w : weights (xs ++ rest) ≡ weights xs + weights rest = sum_append (λ (x : Focal). x.weight) xs rest in
         record {
           acc = (fill f.acc xs).list;
           held = record {
-            bytes = row-bytes;
+            bytes = row_bytes;
             count = row_count ∙ k.count c;
             room = k.room f.held.room;
             len = f.held.len;
@@ -168,25 +168,25 @@ module _ {out₀ out : List ℕ} {m : ℕ} (xs rest : List Focal) {g : Filled} (
             under = k.under f.held.under row_under;
             sum = omega (arith, f.fits, k.sum);
           };
-          under = (every-split xs f.under).1;
+          under = (every_split xs f.under).1;
           fits = omega (arith, f.fits, k.sum);
           goal = sym (fill_on f.acc xs rest c) ∙ f.goal;
         }
 
-    pub filling_row-stop : most_intervals < n → Done out₀ e n g
-    filling_row-stop h =
+    pub filling_row_stop : most_intervals < n → Done out₀ e n g
+    filling_row_stop h =
         let ge : fill f.acc xs ≡ g = sym (fill_off f.acc xs rest f.held.room (omega (arith, row_count))) ∙ f.goal in
-        (row_count ∙ ap (λ (x : Filled). x.count) ge, row-bytes ∙ ap (λ (x : Filled). holding out₀ x.list) ge)
+        (row_count ∙ ap (λ (x : Filled). x.count) ge, row_bytes ∙ ap (λ (x : Filled). holding out₀ x.list) ge)
 
 -- ---- what is filled where the whole list has at most most_intervals intervals, and where it has more
 
-insert_all-longer : (l ps : List Focal) → length l ≤ length (insert_all l ps)
-insert_all-longer l [] = omega arith
-insert_all-longer l (p ∷ ps) = omega (arith, length_insert p l, insert_all-longer (inserted p l) ps)
+insert_all_longer : (l ps : List Focal) → length l ≤ length (insert_all l ps)
+insert_all_longer l [] = omega arith
+insert_all_longer l (p ∷ ps) = omega (arith, length_insert p l, insert_all_longer (inserted p l) ps)
 
-pub fill-all : (l ps : List Focal) → length (insert_all l ps) ≤ most_intervals → fill l ps ≡ record { list = insert_all l ps; count = length (insert_all l ps) }
-fill-all l [] h = refl
-fill-all l (p ∷ ps) h = fill_goes l p ps (omega (arith, insert_all-longer (inserted p l) ps)) ∙ fill-all (inserted p l) ps h
+pub fill_all : (l ps : List Focal) → length (insert_all l ps) ≤ most_intervals → fill l ps ≡ record { list = insert_all l ps; count = length (insert_all l ps) }
+fill_all l [] h = refl
+fill_all l (p ∷ ps) h = fill_goes l p ps (omega (arith, insert_all_longer (inserted p l) ps)) ∙ fill_all (inserted p l) ps h
 
 pub fill_over : (l ps : List Focal) → length l ≤ most_intervals → most_intervals < length (insert_all l ps) → (fill l ps).count ≡ 257
 fill_over l [] r h = omega arith

@@ -11,16 +11,16 @@ use Rattle.theory.specs.declared.Join.{Join}
 use Rattle.theory.specs.Order.{InOrder, inserted}
 use Rattle.theory.specs.Limits.{most_intervals, list_bytes}
 use Rattle.theory.proofs.Collect.{weights_insert, every_insert, order_insert}
-use Rattle.theory.proofs.Every.{every-image}
+use Rattle.theory.proofs.Every.{every_image}
 use Rattle.theory.proofs.Lists.{length_insert}
-use Rattle.theory.proofs.Monotone.{joined-within}
-use Rattle.theory.proofs.Steps.{every-pairs}
+use Rattle.theory.proofs.Monotone.{joined_within}
+use Rattle.theory.proofs.Steps.{every_pairs}
 use Rattle.numbers.specs.Numbers.{Bytes}
 use Rattle.records.specs.declared.Insertion.{Insertion}
 use Rattle.records.specs.Records.{records, Under, speed_limit}
 use Rattle.records.specs.Store.{holding}
 use Rattle.records.specs.Insertion.{insertion_of, insert_or_stay, Insertable}
-use Rattle.records.proofs.Records.{length-records, holds, records-encode, records-under}
+use Rattle.records.proofs.Records.{length-records, holds, records-encode, records_under}
 use Rattle.records.proofs.Store.{length-holding, holding_over}
 use Rattle.records.proofs.Inserting.{stay_fits, stay_full}
 use Rattle.joins.specs.Joins.{row_of}
@@ -28,17 +28,17 @@ use Rattle.joins.specs.Joins.{row_of}
 -- ---- records hold what is joined of two records
 
 module _ (op : Join) where
-  joined-under : (f g : Focal) → Under speed_limit f → Under speed_limit g → Under speed_limit (joined_focal op f g)
-  joined-under f g u v = (
-    omega (arith, joined-within op {top = speed_limit - 1} {a = f.low} {b = g.low} (omega arith) (omega arith) (omega arith)),
-    omega (arith, joined-within op {top = speed_limit - 1} {a = f.high} {b = g.high} (omega arith) (omega arith) (omega arith)),
+  joined_under : (f g : Focal) → Under speed_limit f → Under speed_limit g → Under speed_limit (joined_focal op f g)
+  joined_under f g u v = (
+    omega (arith, joined_within op {top = speed_limit - 1} {a = f.low} {b = g.low} (omega arith) (omega arith) (omega arith)),
+    omega (arith, joined_within op {top = speed_limit - 1} {a = f.high} {b = g.high} (omega arith) (omega arith) (omega arith)),
   )
 
-  pub pairs-under : {fs gs : List Focal} → Every (Under speed_limit) fs → Every (Under speed_limit) gs → Every (Under speed_limit) (pairs op fs gs)
-  pairs-under = every-pairs ◌*◌ op joined-under
+  pub pairs_under : {fs gs : List Focal} → Every (Under speed_limit) fs → Every (Under speed_limit) gs → Every (Under speed_limit) (pairs op fs gs)
+  pairs_under = every_pairs ◌*◌ op joined_under
 
-  pub joined-row-under : (f : Focal) → Under speed_limit f → {gs : List Focal} → Every (Under speed_limit) gs → Every (Under speed_limit) (row_of op f gs)
-  joined-row-under f u = every-image (joined_focal op f) (λ g. joined-under f g u)
+  pub joined_row_under : (f : Focal) → Under speed_limit f → {gs : List Focal} → Every (Under speed_limit) gs → Every (Under speed_limit) (row_of op f gs)
+  joined_row_under f u = every_image (joined_focal op f) (λ g. joined_under f g u)
 
 -- ---- one interval more
 
@@ -64,7 +64,7 @@ held out m w b i =
       room = omega (arith, i.count);
       len = i.room;
       order = i.ordered;
-      under = records-under m out b;
+      under = records_under m out b;
       sum = omega (arith, i.fits);
     }
 
@@ -87,18 +87,18 @@ module _ {out₀ out : List ℕ} {m : ℕ} {l : List Focal} (h : Held out₀ out
   -- One insertion of p.
   module _ {p : Focal} (u : Under speed_limit p) (f : weights l + p.weight < 2 ^ 64) {g : Focal} (q : g ≡ p) {e : List ℕ} {r : Insertion}
       (ensures : (r ≡ insertion_of g (records m out)) × (e ≡ holding out (insert_or_stay g (records m out)))) where
-    pub held-count : r.count ≡ length (inserted p l)
-    held-count = ap (λ (x : Insertion). x.count) ensures.0 ∙ (λ k. length (inserted (q k) (view k)))
+    pub held_count : r.count ≡ length (inserted p l)
+    held_count = ap (λ (x : Insertion). x.count) ensures.0 ∙ (λ k. length (inserted (q k) (view k)))
 
     after : e ≡ holding (holding out₀ l) (insert_or_stay p l)
     after = ensures.1 ∙ (λ k. holding (h.bytes k) (insert_or_stay (q k) (view k)))
 
-    pub held-step : r.count ≤ most_intervals → Held out₀ e r.count (inserted p l)
-    held-step k =
-        let fit : length (inserted p l) ≤ most_intervals = omega (arith, held-count) in
+    pub held_step : r.count ≤ most_intervals → Held out₀ e r.count (inserted p l)
+    held_step k =
+        let fit : length (inserted p l) ≤ most_intervals = omega (arith, held_count) in
         record {
           bytes = after ∙ ap (holding (holding out₀ l)) (stay_fits p l fit) ∙ holding_over out₀ l (inserted p l) (length_insert p l).0;
-          count = held-count;
+          count = held_count;
           room = fit;
           len = h.len;
           order = order_insert p h.order;
@@ -106,5 +106,5 @@ module _ {out₀ out : List ℕ} {m : ℕ} {l : List Focal} (h : Held out₀ out
           sum = omega (arith, weights_insert p l);
         }
 
-    pub held-stop : most_intervals < r.count → e ≡ holding out₀ l
-    held-stop k = after ∙ ap (holding (holding out₀ l)) (stay_full p l (omega (arith, held-count))) ∙ holding_over out₀ l l (omega arith)
+    pub held_stop : most_intervals < r.count → e ≡ holding out₀ l
+    held_stop k = after ∙ ap (holding (holding out₀ l)) (stay_full p l (omega (arith, held_count))) ∙ holding_over out₀ l l (omega arith)

@@ -8,7 +8,7 @@ use Rattle.theory.specs.Sums.{count_from}
 use Rattle.theory.specs.Focal.{Focal, focal_at, listed}
 use Rattle.theory.specs.Order.{inserted, collect}
 use Rattle.theory.specs.declared.Component.{Component}
-use Rattle.theory.proofs.Sums.{length-count}
+use Rattle.theory.proofs.Sums.{length_count}
 use Rattle.theory.proofs.Lists.{length-collect}
 
 -- The intervals from place i on.
@@ -23,14 +23,14 @@ collected c i = collect (listed_from c i)
 counted : (c : Component) (i n : ℕ) → c.count - i ≡ n → collected c i ≡ collect (map (focal_at c) (count_from i n))
 counted c i n e = ap (λ (k : ℕ). collect (map (focal_at c) (count_from i k))) e
 
-pub collected-none : (c : Component) → collected c c.count ≡ []
-collected-none c = counted c c.count 0 (omega arith)
+pub collected_none : (c : Component) → collected c c.count ≡ []
+collected_none c = counted c c.count 0 (omega arith)
 
-pub collected-all : (c : Component) → collected c 0 ≡ collect (listed c)
-collected-all c = counted c 0 c.count (omega arith)
+pub collected_all : (c : Component) → collected c 0 ≡ collect (listed c)
+collected_all c = counted c 0 c.count (omega arith)
 
-pub collected-next : (c : Component) (i : ℕ) → i < c.count → collected c i ≡ inserted (focal_at c i) (collected c (suc i))
-collected-next c i h = counted c i (suc (c.count - suc i)) (omega arith)
+pub collected_next : (c : Component) (i : ℕ) → i < c.count → collected c i ≡ inserted (focal_at c i) (collected c (suc i))
+collected_next c i h = counted c i (suc (c.count - suc i)) (omega arith)
 
-pub collected-short : (c : Component) (i : ℕ) → length (collected c i) ≤ c.count - i
-collected-short c i = omega (arith, length-collect (listed_from c i), length-map (count_from i (c.count - i)) (focal_at c), length-count i (c.count - i))
+pub collected_short : (c : Component) (i : ℕ) → length (collected c i) ≤ c.count - i
+collected_short c i = omega (arith, length-collect (listed_from c i), length-map (count_from i (c.count - i)) (focal_at c), length_count i (c.count - i))

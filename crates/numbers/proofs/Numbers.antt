@@ -33,13 +33,13 @@ pub record Placed (s : List ℕ) (k m : ℕ) (xs e : List ℕ) : Type 0 where
   pub up_to : m ≡ k + length xs
   pub is : e ≡ take k s ++ (xs ++ drop m s)
 
-pub placed-none : (s : List ℕ) (k : ℕ) → k ≤ length s → Placed s k k [] s
-placed-none s k h = record { within = h; up_to = sym (add-zero k); is = sym (take-append-drop k s) }
+pub placed_none : (s : List ℕ) (k : ℕ) → k ≤ length s → Placed s k k [] s
+placed_none s k h = record { within = h; up_to = sym (add-zero k); is = sym (take-append-drop k s) }
 
 -- What is then put in at a, where xs end, up to n, with no change of length, stands behind xs.
-pub placed-next : {s t e xs : List ℕ} {k m : ℕ} (a n : ℕ) (ys : List ℕ) → Placed s k m xs t → a ≡ m → a ≤ n → n ≤ length t → length e ≡ length t
+pub placed_next : {s t e xs : List ℕ} {k m : ℕ} (a n : ℕ) (ys : List ℕ) → Placed s k m xs t → a ≡ m → a ≤ n → n ≤ length t → length e ≡ length t
     → e ≡ take a t ++ (ys ++ drop n t) → Placed s k n (xs ++ ys) e
-placed-next {s} {t} {e} {xs} {k} {m} a n ys p f h g u q =
+placed_next {s} {t} {e} {xs} {k} {m} a n ys p f h g u q =
     let lengths : length e ≡ length (take a t ++ (ys ++ drop n t)) = ap length q in
     let room : n ≡ a + length ys = omega (arith, simp (length-append, length-take, length-drop) at lengths) in
     let front : List ℕ = take k s ++ xs in
@@ -68,30 +68,30 @@ onto_snoc acc [] b = refl
 onto_snoc acc (x ∷ xs) b = onto_snoc (acc * 256 + x) xs b
 
 -- The number in one byte more.
-pub number-next : (s : List ℕ) (a n : ℕ) → a + n < length s → number_at s a (n + 1) ≡ number_at s a n * 256 + get_or s (a + n) 0
-number-next s a n h =
+pub number_next : (s : List ℕ) (a n : ℕ) → a + n < length s → number_at s a (n + 1) ≡ number_at s a n * 256 + get_or s (a + n) 0
+number_next s a n h =
     let l : n < length (drop a s) = rw length-drop (omega arith) in
     rw (add-one, take-suc (drop a s) n 0, onto_snoc, get_or-drop)
 
 -- A number in m bytes and n more is that in the m bytes, then that in the n.
-pub number-split : (s : List ℕ) (a m n : ℕ) → a + m + n ≤ length s → number_at s a (m + n) ≡ number_at s a m * 256 ^ n + number_at s (a + m) n
+pub number_split : (s : List ℕ) (a m n : ℕ) → a + m + n ≤ length s → number_at s a (m + n) ≡ number_at s a m * 256 ^ n + number_at s (a + m) n
 unfolding onto
-number-split s a m zero h = rw add-zero (omega arith)
-number-split s a m (suc n) h =
+number_split s a m zero h = rw add-zero (omega arith)
+number_split s a m (suc n) h =
     let e : m + suc n ≡ m + n + 1 = omega arith in
     let d : a + (m + n) ≡ a + m + n = omega arith in
     let p : number_at s (a + m) (suc n) ≡ number_at s (a + m) n * 256 + get_or s (a + m + n) 0 =
-    ap (number_at s (a + m)) (sym (add-one n)) ∙ number-next s (a + m) n (omega arith) in
-    rw (e, number-next s a (m + n) (omega arith), d, number-split s a m n (omega arith), p, pow-suc, add-mul, mul_assoc) (omega arith)
+    ap (number_at s (a + m)) (sym (add-one n)) ∙ number_next s (a + m) n (omega arith) in
+    rw (e, number_next s a (m + n) (omega arith), d, number_split s a m n (omega arith), p, pow-suc, add-mul, mul_assoc) (omega arith)
 
 pub length-big_endian : (n v : ℕ) → length (big_endian n v) ≡ n
 unfolding big_endian
 length-big_endian zero v = refl
 length-big_endian (suc n) v = ap suc (length-big_endian n _)
 
-pub big_endian-next : (m v : ℕ) → big_endian (m + 1) v ≡ (v / 256 ^ m) % 256 ∷ big_endian m v
+pub big_endian_next : (m v : ℕ) → big_endian (m + 1) v ≡ (v / 256 ^ m) % 256 ∷ big_endian m v
 unfolding big_endian
-big_endian-next m v = rw add-one
+big_endian_next m v = rw add-one
 
 pub shifted_out : (v m : ℕ) → v / 256 ^ m / 256 ≡ v / 256 ^ (m + 1)
 shifted_out v m = rw (add-one, pow-suc) (div-div-eq-div-mul v (256 ^ m) 256)
@@ -100,16 +100,16 @@ shifted_out v m = rw (add-one, pow-suc) (div-div-eq-div-mul v (256 ^ m) 256)
 abbrev pub spelt : List ℕ → ℕ → ℕ → ℕ → ℕ → List ℕ
 spelt s at n v i = take (at + i) s ++ (big_endian (n - i) v ++ drop (at + n) s)
 
-pub spelt-none : (s : List ℕ) (at n v : ℕ) → s ≡ spelt s at n v n
+pub spelt_none : (s : List ℕ) (at n v : ℕ) → s ≡ spelt s at n v n
 unfolding big_endian
-spelt-none s at n v = let e : n - n ≡ 0 = omega arith in rw e (sym (take-append-drop (at + n) s))
+spelt_none s at n v = let e : n - n ≡ 0 = omega arith in rw e (sym (take-append-drop (at + n) s))
 
-pub spelt-more : (s : List ℕ) (at n v i : ℕ) → i < n → at + n ≤ length s
+pub spelt_more : (s : List ℕ) (at n v i : ℕ) → i < n → at + n ≤ length s
     → set (spelt s at n v (i + 1)) (at + i) (v / 256 ^ (n - (i + 1)) % 256) ≡ spelt s at n v i
-spelt-more s at n v i h k =
+spelt_more s at n v i h k =
     let e : at + (i + 1) ≡ at + i + 1 = omega arith in
     let e2 : n - i ≡ n - (i + 1) + 1 = omega arith in
-    rw (e, e2, big_endian-next) (back s (big_endian (n - (i + 1)) v ++ drop (at + n) s) (at + i) (v / 256 ^ (n - (i + 1)) % 256) (omega arith))
+    rw (e, e2, big_endian_next) (back s (big_endian (n - (i + 1)) v ++ drop (at + n) s) (at + i) (v / 256 ^ (n - (i + 1)) % 256) (omega arith))
 
 -- ---- numbers, there and back
 

@@ -19,7 +19,7 @@ use Rattle.theory.specs.declared.Entry.TheVariants.{Component as component, Join
 use Rattle.theory.specs.declared.Join.{Join}
 use Rattle.theory.specs.declared.Join.TheVariants.{Series, Shared, Spare}
 use Rattle.theory.specs.Structure.{named, joins_find_two}
-use Rattle.theory.proofs.Sums.{length-count, length-below}
+use Rattle.theory.proofs.Sums.{length_count, length_below}
 use Rattle.block.proofs.Laws.{neither}
 use Rattle.plan.specs.declared.Plan.{Plan}
 use Rattle.plan.specs.Tests.{any_of}
@@ -70,19 +70,19 @@ pub known_entry : (n : ℕ) (e : Entry) → bad_entry n e ≡ false → Known n 
 known_entry n (component i) e = names (leb-false n i (neither (leb most_components i) (leb n i) e).1)
 known_entry n (join op) e = joins
 
-pub known-component : {n i : ℕ} → Known n (component i) → i < n
-known-component (names h) = h
+pub known_component : {n i : ℕ} → Known n (component i) → i < n
+known_component (names h) = h
 
 -- The code of an entry that keeps number 9 fits four bits.
-pub known-fits : (n code : ℕ) → n ≤ most_components → Known n (entry_of code) → code < 16
-known-fits n code l =
-    by_code (λ k e. Known n e → k < 16) (λ k. omega arith) (λ k. omega arith) (λ k. omega arith) code (λ a b d k. omega (arith, known-component k))
+pub known_fits : (n code : ℕ) → n ≤ most_components → Known n (entry_of code) → code < 16
+known_fits n code l =
+    by_code (λ k e. Known n e → k < 16) (λ k. omega arith) (λ k. omega arith) (λ k. omega arith) code (λ a b d k. omega (arith, known_component k))
 
 -- The places of a list that counts.
-get_or-count : (k n i : ℕ) → i < n → get_or (count_from k n) i 0 ≡ k + i
-get_or-count k zero i h = absurd (omega arith)
-get_or-count k (suc n) zero h = omega arith
-get_or-count k (suc n) (suc i) h = get_or-count (suc k) n i (omega arith) ∙ omega arith
+get_or_count : (k n i : ℕ) → i < n → get_or (count_from k n) i 0 ≡ k + i
+get_or_count k zero i h = absurd (omega arith)
+get_or_count k (suc n) zero h = omega arith
+get_or_count k (suc n) (suc i) h = get_or_count (suc k) n i (omega arith) ∙ omega arith
 
 get_d_map : {A B : Type 0} (f : A → B) (xs : List A) (i : ℕ) (a : A) (b : B) → i < length xs → get_or (map f xs) i b ≡ f (get_or xs i a)
 get_d_map f [] i a b h = absurd (omega arith)
@@ -91,26 +91,26 @@ get_d_map f (x ∷ xs) (suc i) a b h = get_d_map f xs i a b (omega arith)
 
 -- The list of f of each number below n.
 module _ {A : Type 0} (f : ℕ → A) (n : ℕ) where
-  get_or-below : (z : A) (i : ℕ) → i < n → get_or (map f (count_from 0 n)) i z ≡ f i
-  get_or-below z i h =
-      get_d_map f (count_from 0 n) i 0 z (omega (arith, length-count 0 n)) ∙ ap f (get_or-count 0 n i h ∙ omega arith)
+  get_or_below : (z : A) (i : ℕ) → i < n → get_or (map f (count_from 0 n)) i z ≡ f i
+  get_or_below z i h =
+      get_d_map f (count_from 0 n) i 0 z (omega (arith, length_count 0 n)) ∙ ap f (get_or_count 0 n i h ∙ omega arith)
 
 -- The places of a plan in use.
 module _ (p : Plan) where
-  pub components-count : length (components_of p) ≡ p.count
-  components-count = length-below (component_at p) p.count
+  pub components_count : length (components_of p) ≡ p.count
+  components_count = length_below (component_at p) p.count
 
   pub component_is : (j : ℕ) → j < p.count → get_or (components_of p) j no_component ≡ component_at p j
-  component_is = get_or-below (component_at p) p.count no_component
+  component_is = get_or_below (component_at p) p.count no_component
 
   pub codes_count : length (codes_of p) ≡ entry_count p.count
-  codes_count = length-below (λ j. get_or p.entries j 0) (entry_count p.count)
+  codes_count = length_below (λ j. get_or p.entries j 0) (entry_count p.count)
 
   pub code_is : (i : ℕ) → i < entry_count p.count → get_or (codes_of p) i 0 ≡ get_or p.entries i 0
-  code_is = get_or-below (λ j. get_or p.entries j 0) (entry_count p.count) 0
+  code_is = get_or_below (λ j. get_or p.entries j 0) (entry_count p.count) 0
 
-  pub entries-count : length (entries_of p) ≡ entry_count p.count
-  entries-count = length-map (codes_of p) entry_of ∙ codes_count
+  pub entries_count : length (entries_of p) ≡ entry_count p.count
+  entries_count = length-map (codes_of p) entry_of ∙ codes_count
 
   pub entry_is : (i : ℕ) → i < entry_count p.count → get_or (entries_of p) i (component 0) ≡ entry_of (get_or p.entries i 0)
   entry_is i h = get_d_map entry_of (codes_of p) i 0 (component 0) (omega (arith, codes_count)) ∙ ap entry_of (code_is i h)
@@ -128,18 +128,18 @@ entries_from s j m = map entry_of (map (λ k. get_or s k 0) (from j m))
 pub entries_next : (s : List ℕ) (j m : ℕ) → j < m → entries_from s j m ≡ entry_of (get_or s j 0) ∷ entries_from s (j + 1) m
 entries_next s j m h = rw (from_next j m h)
 
-pub entries-end : (s : List ℕ) (j m : ℕ) → m ≤ j → entries_from s j m ≡ []
-entries-end s j m h = rw (from_end j m h)
+pub entries_end : (s : List ℕ) (j m : ℕ) → m ≤ j → entries_from s j m ≡ []
+entries_end s j m h = rw (from_end j m h)
 
 -- What one entry adds to the components that are named.
-pub names-next : (i : ℕ) (e : Entry) (es : List Entry) → count_of i (named (e ∷ es)) ≡ count_of i (named (e ∷ [])) + count_of i (named es)
-names-next i (component k) es = omega arith
-names-next i (join op) es = omega arith
+pub names_next : (i : ℕ) (e : Entry) (es : List Entry) → count_of i (named (e ∷ es)) ≡ count_of i (named (e ∷ [])) + count_of i (named es)
+names_next i (component k) es = omega arith
+names_next i (join op) es = omega arith
 
 -- What the entry at place j of m leaves of the search for a join that finds fewer than two of h lists.
 module _ (s : List ℕ) (m j h : ℕ) (l : j < m) where
-  pub find-component : {i : ℕ} → entry_of (get_or s j 0) ≡ component i → joins_find_two (entries_from s j m) h ≡ joins_find_two (entries_from s (j + 1) m) (h + 1)
-  find-component e = rw (entries_next s j m l, e, add-one h)
+  pub find_component : {i : ℕ} → entry_of (get_or s j 0) ≡ component i → joins_find_two (entries_from s j m) h ≡ joins_find_two (entries_from s (j + 1) m) (h + 1)
+  find_component e = rw (entries_next s j m l, e, add-one h)
 
   module _ {op : Join} (e : entry_of (get_or s j 0) ≡ join op) where
     pub find_few : h < 2 → joins_find_two (entries_from s j m) h ≡ false
@@ -150,8 +150,8 @@ module _ (s : List ℕ) (m j h : ℕ) (l : j < m) where
         go (suc zero) a = refl
         go (suc (suc k)) a = absurd (omega arith)
 
-    pub find-two : 2 ≤ h → joins_find_two (entries_from s j m) h ≡ joins_find_two (entries_from s (j + 1) m) (h - 1)
-    find-two a = rw (entries_next s j m l, e) (go h a)
+    pub find_two_next : 2 ≤ h → joins_find_two (entries_from s j m) h ≡ joins_find_two (entries_from s (j + 1) m) (h - 1)
+    find_two_next a = rw (entries_next s j m l, e) (go h a)
       where
         go : (k : ℕ) → 2 ≤ k → joins_find_two (join op ∷ entries_from s (j + 1) m) k ≡ joins_find_two (entries_from s (j + 1) m) (k - 1)
         go zero a = absurd (omega arith)

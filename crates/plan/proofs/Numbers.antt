@@ -13,13 +13,13 @@ use Rattle.theory.proofs.Every.{every_map}
 use Rattle.plan.specs.Tests.{Test, first_broken, outside, any_of, Unbroken, First, here, later}
 use Rattle.plan.proofs.Tests.{every_failed, within, any_none}
 
-pub none-broken : {ts : List Test} → Every Unbroken ts → first_broken ts ≡ 0
-none-broken none = refl
-none-broken (more e es) = rw e (none-broken es)
+pub none_broken : {ts : List Test} → Every Unbroken ts → first_broken ts ≡ 0
+none_broken none = refl
+none_broken (more e es) = rw e (none_broken es)
 
-all-unbroken : (ts : List Test) → Every (λ t. 0 < t.number) ts → first_broken ts ≡ 0 → Every Unbroken ts
-all-unbroken [] none e = none
-all-unbroken (t ∷ ts) (more h hs) e = go t.broken refl (all-unbroken ts hs) e
+all_unbroken : (ts : List Test) → Every (λ t. 0 < t.number) ts → first_broken ts ≡ 0 → Every Unbroken ts
+all_unbroken [] none e = none
+all_unbroken (t ∷ ts) (more h hs) e = go t.broken refl (all_unbroken ts hs) e
   where
     go : (b : Bool) → t.broken ≡ b → (first_broken ts ≡ 0 → Every Unbroken ts) → cond b t.number (first_broken ts) ≡ 0 → Every Unbroken (t ∷ ts)
     go true d f e = absurd (omega arith)
@@ -43,24 +43,24 @@ module _ (n : ℕ) (ts : List Test) (e : any_of (λ t. outside 1 n t.number) ts 
   numbers = every_failed (λ t. outside 1 n t.number) ts (λ t h. within 1 n t.number h) e
 
   pub no_number : first_broken ts ≡ 0 → Every Unbroken ts
-  no_number = all-unbroken ts (every_map (λ t h. h.0) numbers)
+  no_number = all_unbroken ts (every_map (λ t h. h.0) numbers)
 
   pub accepted_by : (first_broken ts ≡ 0) ↔ Every Unbroken ts
-  accepted_by = (no_number, none-broken)
+  accepted_by = (no_number, none_broken)
 
 -- The first broken test is the first of a longer list too.
 pub first_in_front : {ts : List Test} {k : ℕ} → First ts k → (us : List Test) → First (ts ++ us) k
 first_in_front (here q e) us = here q e
 first_in_front (later q r) us = later q (first_in_front r us)
 
-pub first-behind : {ts us : List Test} {k : ℕ} → Every Unbroken ts → First us k → First (ts ++ us) k
-first-behind none f = f
-first-behind (more q r) f = later q (first-behind r f)
+pub first_behind : {ts us : List Test} {k : ℕ} → Every Unbroken ts → First us k → First (ts ++ us) k
+first_behind none f = f
+first_behind (more q r) f = later q (first_behind r f)
 
 -- A number that no test has is not answered.
-pub number-never : (bad : ℕ → Bool) → bad 0 ≡ false → (ts : List Test) → any_of (λ t. bad t.number) ts ≡ false → bad (first_broken ts) ≡ false
-number-never bad z [] e = z
-number-never bad z (t ∷ ts) e = let (h, r) = any_none (λ u. bad u.number) t ts e in go t.broken h (number-never bad z ts r)
+pub number_never : (bad : ℕ → Bool) → bad 0 ≡ false → (ts : List Test) → any_of (λ t. bad t.number) ts ≡ false → bad (first_broken ts) ≡ false
+number_never bad z [] e = z
+number_never bad z (t ∷ ts) e = let (h, r) = any_none (λ u. bad u.number) t ts e in go t.broken h (number_never bad z ts r)
   where
     go : (b : Bool) → bad t.number ≡ false → bad (first_broken ts) ≡ false → bad (cond b t.number (first_broken ts)) ≡ false
     go true h r = h
@@ -79,14 +79,14 @@ first_found (t ∷ ts) us h = go t.broken h (first_found ts us)
     go true h f = refl
     go false h f = f h
 
-pub first-none : {ts : List Test} (us : List Test) → Every Unbroken ts → first_broken (ts ++ us) ≡ first_broken us
-first-none us none = refl
-first-none us (more e es) = rw e (first-none us es)
+pub first_none : {ts : List Test} (us : List Test) → Every Unbroken ts → first_broken (ts ++ us) ≡ first_broken us
+first_none us none = refl
+first_none us (more e es) = rw e (first_none us es)
 
 -- Both in one: the second list decides exactly where the first has no number.
 pub first_then : (n : ℕ) (ts us : List Test) → any_of (λ t. outside 1 n t.number) ts ≡ false
     → cond (eqb (first_broken ts) 0) (first_broken us) (first_broken ts) ≡ first_broken (ts ++ us)
 first_then n ts us e = elim (ℕ_discrete (first_broken ts) 0) [
-  | yes z ↦ rw (eq-eqb (first_broken ts) 0 z) (sym (first-none us (no_number n ts e z)))
+  | yes z ↦ rw (eq-eqb (first_broken ts) 0 z) (sym (first_none us (no_number n ts e z)))
   | no z ↦ rw (ne_eqb (first_broken ts) 0 z) (sym (first_found ts us z))
 ]

@@ -54,11 +54,11 @@ any_at f k (suc n) i a b e = elim (ℕ_discrete i k) [
   | no x ↦ rw (any_at f (suc k) n i (omega arith) (omega arith) e) (or-true (f k))
 ]
 
-pub every-below : {A : Type 0} {P : A → Type 0} (g : ℕ → A) (k n i : ℕ) → Every P (map g (count_from k n)) → k ≤ i → i < k + n → P (g i)
-every-below g k zero i h a b = absurd (omega arith)
-every-below {A} {P} g k (suc n) i (more h hs) a b = elim (ℕ_discrete i k) [
+pub every_below : {A : Type 0} {P : A → Type 0} (g : ℕ → A) (k n i : ℕ) → Every P (map g (count_from k n)) → k ≤ i → i < k + n → P (g i)
+every_below g k zero i h a b = absurd (omega arith)
+every_below {A} {P} g k (suc n) i (more h hs) a b = elim (ℕ_discrete i k) [
   | yes e ↦ subst (λ (j : ℕ). P (g j)) (sym e) h
-  | no e ↦ every-below g (suc k) n i hs (omega arith) (omega arith)
+  | no e ↦ every_below g (suc k) n i hs (omega arith) (omega arith)
 ]
 
 -- One number more.

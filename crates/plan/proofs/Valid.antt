@@ -14,8 +14,8 @@ use Rattle.theory.specs.Limits.{top_speed, most_held, most_total, most_component
 use Rattle.theory.specs.declared.Entry.{Entry}
 use Rattle.theory.specs.Structure.{named, NamedOnce}
 use Rattle.theory.specs.declared.Component.{Component}
-use Rattle.theory.proofs.Every.{every-image}
-use Rattle.theory.proofs.Masses.{Compared, same, apart, compared, range_masses, positive-masses, distinct-masses, balanced-masses}
+use Rattle.theory.proofs.Every.{every_image}
+use Rattle.theory.proofs.Masses.{Compared, same, apart, compared, range_masses, positive_masses, distinct_masses, balanced_masses}
 use Rattle.block.proofs.Laws.{neither}
 use Rattle.plan.specs.declared.Plan.{Plan}
 use Rattle.plan.specs.Tests.{first_broken, any_of, Unbroken}
@@ -24,7 +24,7 @@ use Rattle.plan.specs.Rules.{rule3, bad_count, rule4, bad_total, bad_alone, afte
 use Rattle.plan.specs.Valid.{Known, names, joins, Valid}
 use Rattle.plan.proofs.Tests.{every_failed, any_below, any_map, within}
 use Rattle.plan.proofs.Numbers.{no_number}
-use Rattle.plan.proofs.Entries.{known_entry, entries-count}
+use Rattle.plan.proofs.Entries.{known_entry, entries_count}
 
 pub counted : (n : ℕ) → rule3 n ≡ false → Counted n
 counted n e =
@@ -50,10 +50,10 @@ module _ (c : Component) (j : ℕ) (e : bad_interval c j ≡ false) where
   interval_in_range : InRange (focal_at c j)
   interval_in_range =
       let b = neither (ltb (focal_at c j).high (focal_at c j).low) (ltb top_speed (focal_at c j).high) alone.0 in
-      record { low-high = ltb-false _ _ b.0; below = ltb-false _ _ b.1 }
+      record { low_high = ltb-false _ _ b.0; below = ltb-false _ _ b.1 }
 
-  weight-above : Positive (focal_at c j)
-  weight-above = omega (arith, eqb-false (focal_at c j).weight 0 alone.1)
+  weight_above : Positive (focal_at c j)
+  weight_above = omega (arith, eqb-false (focal_at c j).weight 0 alone.1)
 
 kept : (c : Component) → bad_intervals c ≡ false → Every (λ j. bad_interval c j ≡ false) (count_from 0 c.count)
 kept c h = every_failed (bad_interval c) (count_from 0 c.count) (λ j e. e) h
@@ -73,9 +73,9 @@ rises f g h e = go (ltb f.low g.low) refl (eqb f.low g.low) refl (ltb f.high g.h
     go false p false q z r w = absurd (false≢true w)
 
 module _ (c : Component) where
-  next-rises : (i : ℕ) → bad_interval c i ≡ false → bad_interval c (suc i) ≡ false
+  next_rises : (i : ℕ) → bad_interval c i ≡ false → bad_interval c (suc i) ≡ false
       → key (focal_at c i).low (focal_at c i).high < key (focal_at c (suc i)).low (focal_at c (suc i)).high
-  next-rises i e h =
+  next_rises i e h =
       let p : suc i - 1 ≡ i = omega arith in
       let n : not (after (focal_at c (suc i - 1)) (focal_at c (suc i))) ≡ false =
       rw (lt-ltb 0 (suc i) (omega arith)) at (neither (bad_alone (focal_at c (suc i))) _ h).1 in
@@ -86,12 +86,12 @@ module _ (c : Component) where
     abbrev times : ℕ → ℕ → ℕ
     times i n = times_at a b (map (focal_at c) (count_from i n))
 
-    none-behind : (i n : ℕ) → bad_interval c i ≡ false → key a b ≤ key (focal_at c i).low (focal_at c i).high
+    none_behind : (i n : ℕ) → bad_interval c i ≡ false → key a b ≤ key (focal_at c i).low (focal_at c i).high
         → Every (λ j. bad_interval c j ≡ false) (count_from (suc i) n) → times (suc i) n ≡ 0
-    none-behind i zero e h r = refl
-    none-behind i (suc n) e h (more k r) =
-        let l = next-rises i e k in
-        go (compared a b (focal_at c (suc i))) (none-behind (suc i) n k (omega arith) r) l
+    none_behind i zero e h r = refl
+    none_behind i (suc n) e h (more k r) =
+        let l = next_rises i e k in
+        go (compared a b (focal_at c (suc i))) (none_behind (suc i) n k (omega arith) r) l
       where
         go : {t : Bool} → Compared a b (focal_at c (suc i)) t → times (suc (suc i)) n ≡ 0
             → key (focal_at c i).low (focal_at c i).high < key (focal_at c (suc i)).low (focal_at c (suc i)).high
@@ -104,11 +104,11 @@ module _ (c : Component) where
     once_from i (suc n) (more k r) = go (compared a b (focal_at c i)) (once_from (suc i) n r)
       where
         go : {t : Bool} → Compared a b (focal_at c i) t → times (suc i) n ≤ 1 → cond t 1 0 + times (suc i) n ≤ 1
-        go (same p q) h = omega (arith, none-behind i n k (omega arith) r)
+        go (same p q) h = omega (arith, none_behind i n k (omega arith) r)
         go (apart p) h = omega arith
 
-  distinct-listed : bad_intervals c ≡ false → Distinct (listed c)
-  distinct-listed h a b = once_from a b 0 c.count (kept c h)
+  distinct_listed : bad_intervals c ≡ false → Distinct (listed c)
+  distinct_listed h a b = once_from a b 0 c.count (kept c h)
 
 -- Rules 9 and 10: no entry names a component that is not there, and each that is there is named once.
 none_above : {n : ℕ} {es : List Entry} (i : ℕ) → n ≤ i → Every (Known n) es → count_of i (named es) ≡ 0
@@ -123,10 +123,10 @@ named_once_is n es k e i = elim (dec_lt i n) [
 ]
 
 in_range_all : (c : Component) → bad_intervals c ≡ false → Every InRange (listed c)
-in_range_all c h = every-image (focal_at c) (interval_in_range c) (kept c h)
+in_range_all c h = every_image (focal_at c) (interval_in_range c) (kept c h)
 
-sum-most : (c : Component) → bad_sum c ≡ false → weights (listed c) ≤ c.total
-sum-most c h = ltb-false c.total (weights (listed c)) h
+sum_most : (c : Component) → bad_sum c ≡ false → weights (listed c) ≤ c.total
+sum_most c h = ltb-false c.total (weights (listed c)) h
 
 pub valid : (p : Plan) → rule3 p.count ≡ false → rule4 (components_of p) ≡ false → first_broken (rules p) ≡ 0 → Valid p
 unfolding rule4 rule9 rule10 rule11
@@ -146,13 +146,13 @@ valid p e₃ e₄ e = go (no_number 11 (rules p) refl e)
           counts = every_failed bad_count cs (λ c. within 1 most_held c.count) e₄;
           totals = every_failed bad_total cs (λ c. within 1 most_total c.total) e₆;
           listed_in_range = every_failed bad_intervals cs in_range_all e₇;
-          at_most = every_failed bad_sum cs sum-most e₈;
+          at_most = every_failed bad_sum cs sum_most e₈;
           in_range = every_failed bad_intervals cs (λ c h. range_masses c (in_range_all c h)) e₇;
-          positive = every_failed bad_intervals cs (λ c h. positive-masses c (every-image (focal_at c) (weight-above c) (kept c h))) e₇;
-          distinct = every_failed bad_intervals cs (λ c h. distinct-masses c (distinct-listed c h)) e₇;
-          balanced = every_failed bad_sum cs (λ c h. balanced-masses c (sum-most c h)) e₈;
+          positive = every_failed bad_intervals cs (λ c h. positive_masses c (every_image (focal_at c) (weight_above c) (kept c h))) e₇;
+          distinct = every_failed bad_intervals cs (λ c h. distinct_masses c (distinct_listed c h)) e₇;
+          balanced = every_failed bad_sum cs (λ c h. balanced_masses c (sum_most c h)) e₈;
           known = known;
           named_once = named_once_is p.count es known e₁₀;
           find_two = not-false _ e₁₁;
-          entries = rw (entries-count p) (omega (arith, n.least));
+          entries = rw (entries_count p) (omega (arith, n.least));
         }

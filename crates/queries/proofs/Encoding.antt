@@ -10,24 +10,24 @@ use Rattle.numbers.proofs.Numbers.{length-big_endian, read_front, read_behind, r
 use Rattle.queries.specs.declared.Shares.{Shares}
 use Rattle.queries.specs.Shares.{shares_of, shares_bytes, encode_shares, encode_set}
 
-length-shares : (s : Shares) → length (encode_shares s) ≡ shares_bytes
+length_shares : (s : Shares) → length (encode_shares s) ≡ shares_bytes
 unfolding encode_shares
-length-shares s = simp (length-append, length-big_endian)
+length_shares s = simp (length-append, length-big_endian)
 
 -- As many bytes as the demands take.
 pub length-set : (demands : List ℕ) (l : List Focal) → length (encode_set demands l) ≡ shares_bytes * length demands
 length-set [] l = refl
-length-set (d ∷ ds) l = simp length-append (omega (arith, length-shares (shares_of d l), length-set ds l))
+length-set (d ∷ ds) l = simp length-append (omega (arith, length_shares (shares_of d l), length-set ds l))
 
 -- Two shares at the front.
-pub belief-read : (s : Shares) (rest : List ℕ) → s.belief < 2 ^ 64 → number_at (encode_shares s ++ rest) 0 8 ≡ s.belief
+pub belief_read : (s : Shares) (rest : List ℕ) → s.belief < 2 ^ 64 → number_at (encode_shares s ++ rest) 0 8 ≡ s.belief
 unfolding encode_shares
-belief-read s rest h =
+belief_read s rest h =
     rw (append_assoc (big_endian 8 s.belief) (big_endian 8 s.plausibility) rest) (read_front 8 s.belief (big_endian 8 s.plausibility ++ rest) h)
 
-pub plausibility-read : (s : Shares) (rest : List ℕ) → s.plausibility < 2 ^ 64 → number_at (encode_shares s ++ rest) 8 8 ≡ s.plausibility
+pub plausibility_read : (s : Shares) (rest : List ℕ) → s.plausibility < 2 ^ 64 → number_at (encode_shares s ++ rest) 8 8 ≡ s.plausibility
 unfolding encode_shares
-plausibility-read s rest h =
+plausibility_read s rest h =
     rw (append_assoc (big_endian 8 s.belief) (big_endian 8 s.plausibility) rest)
     (read_behind 8 s.belief (big_endian 8 s.plausibility ++ rest) 0 8 ∙ read_front 8 s.plausibility rest h)
 
@@ -44,5 +44,5 @@ at_place (d ∷ ds) l rest (suc i) k h =
     let first : List ℕ = encode_shares (shares_of d l) in (
       behind,
       rw (place, append_assoc first (encode_set ds l) rest)
-          (read_past first (encode_set ds l ++ rest) shares_bytes (shares_bytes * i + k) 8 (length-shares (shares_of d l)) ∙ e),
+          (read_past first (encode_set ds l ++ rest) shares_bytes (shares_bytes * i + k) 8 (length_shares (shares_of d l)) ∙ e),
     )

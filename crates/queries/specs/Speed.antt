@@ -14,7 +14,7 @@ target_tests target = test 16 (outside 1 thousandths target) ∷ []
 pub record ValidTarget (target total : ℕ) : Type 0 where
   pub least : 0 < target
   pub most : target ≤ thousandths
-  pub total-positive : 0 < total
+  pub total_positive : 0 < total
 
 -- The first n records of s can be read and are in order. A list that is not empty is asked with a valid target.
 pub record Searchable (s : List ℕ) (n target total : ℕ) : Type 0 where

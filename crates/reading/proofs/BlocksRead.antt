@@ -31,16 +31,16 @@ module _ (s : List ℕ) where
   unfolding blocks_in
   blocks_uncut n e = rw e
 
-  pub uncut-next : (i : ℕ) → any_cut s i ≡ false → cut_short (block_at s i) ≡ false → any_cut s (i + 1) ≡ false
-  uncut-next i e w = sym (any_next (λ j. cut_short (block_at s j)) i) ∙ rw (e, w)
+  pub uncut_next : (i : ℕ) → any_cut s i ≡ false → cut_short (block_at s i) ≡ false → any_cut s (i + 1) ≡ false
+  uncut_next i e w = sym (any_next (λ j. cut_short (block_at s j)) i) ∙ rw (e, w)
 
   -- The blocks lie within the sheet.
-  pub starts-within : (n : ℕ) → 2 ≤ length s → any_cut s n ≡ false → start_of s n ≤ length s
+  pub starts_within : (n : ℕ) → 2 ≤ length s → any_cut s n ≡ false → start_of s n ≤ length s
   unfolding start_of
-  starts-within zero h e = h
-  starts-within (suc n) h e =
+  starts_within zero h e = h
+  starts_within (suc n) h e =
       let f = neither (any_cut s n) (cut_short (block_at s (0 + n))) (sym (any_more (λ j. cut_short (block_at s j)) 0 n) ∙ e) in
-      omega (arith, starts-within n h f.0, (uncut (block_at s n) (rw zero-add at f.1)).there, length-drop (start_of s n) s)
+      omega (arith, starts_within n h f.0, (uncut (block_at s n) (rw zero-add at f.1)).there, length-drop (start_of s n) s)
 
   -- What the block reader answers about block i.
   module _ (i : ℕ) (b : Block) (q : b ≡ block_in (block_at s i)) where

@@ -36,16 +36,16 @@ module _ (s : List ℕ) where
   unfolding read_of
   read_number_is = reading-number (first_broken (sheet_tests s)) (plan_in s)
 
-  pub read-accepted : (read_of s).number ≡ 0 → read_of s ≡ record { number = 0; plan = plan_in s }
+  pub read_accepted : (read_of s).number ≡ 0 → read_of s ≡ record { number = 0; plan = plan_in s }
   unfolding read_of
-  read-accepted e = rw (sym read_number_is ∙ e)
+  read_accepted e = rw (sym read_number_is ∙ e)
 
-  pub reads-refused : (k : ℕ) → (k ≡ 0 → ⊥) → k ≡ first_broken (sheet_tests s) → record { number = k; plan = zero_plan } ≡ read_of s
+  pub reads_refused : (k : ℕ) → (k ≡ 0 → ⊥) → k ≡ first_broken (sheet_tests s) → record { number = k; plan = zero_plan } ≡ read_of s
   unfolding read_of
-  reads-refused k h e = sym (refuses k (plan_in s) h) ∙ ap (λ x. reading x (plan_in s)) e
+  reads_refused k h e = sym (refuses k (plan_in s) h) ∙ ap (λ x. reading x (plan_in s)) e
 
-  pub read-refused : (k : ℕ) → 0 < k → (read_of s).number ≡ k → read_of s ≡ record { number = k; plan = zero_plan }
-  read-refused k h e = sym (reads-refused k (λ z. omega arith) (sym e ∙ read_number_is))
+  pub read_refused : (k : ℕ) → 0 < k → (read_of s).number ≡ k → read_of s ≡ record { number = k; plan = zero_plan }
+  read_refused k h e = sym (reads_refused k (λ z. omega arith) (sym e ∙ read_number_is))
 
 -- What an accepted sheet keeps, rule by rule.
 pub record Sound (s : List ℕ) : Type 0 where
@@ -103,8 +103,8 @@ pub decided : (s : List ℕ) → Decided s
 decided s =
     record {
       accepted = rw (read_number_is s) (accepted_by 11 (sheet_tests s) refl);
-      plan_is = λ e. ap (λ (r : Reading). r.plan) (read-accepted s e);
+      plan_is = λ e. ap (λ (r : Reading). r.plan) (read_accepted s e);
       blocks_keep = λ e. blocks_keep s (sound s e);
       refused_by = λ k h. rw (read_number_is s) (refused_by (sheet_tests s) k h);
-      zeros = λ k h e. ap (λ (r : Reading). r.plan) (read-refused s k h e);
+      zeros = λ k h e. ap (λ (r : Reading). r.plan) (read_refused s k h e);
     }

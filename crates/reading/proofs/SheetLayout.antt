@@ -24,7 +24,7 @@ use Rattle.plan.proofs.Numbers.{no_number}
 use Rattle.plan.proofs.Valid.{counted}
 use Rattle.reading.specs.declared.Blocks.{Blocks}
 use Rattle.reading.specs.Reading.{component_count, length_in, head_tests, head_of, head_in, layout_tests, start_of, block_at, entries_at, plan_in, any_cut, bad_layout, bad_zeros, block_components, uncut_blocks, blocks_in}
-use Rattle.reading.proofs.BlocksRead.{blocks_none, blocks_uncut, starts-within}
+use Rattle.reading.proofs.BlocksRead.{blocks_none, blocks_uncut, starts_within}
 
 module _ (s : List ℕ) where
   pub head_number : (head_in s).number ≡ first_broken (head_tests s)
@@ -91,7 +91,7 @@ module _ (s : List ℕ) (n : ℕ) (en : n ≡ component_count s) where
     where
       go : (b : Bool) → any_cut s n ≡ b → (blocks_in s n).end ≤ length s
       go true d = rw (blocks_none s n d) (omega arith)
-      go false d = rw (blocks_uncut s n d) (starts-within s n h d)
+      go false d = rw (blocks_uncut s n d) (starts_within s n h d)
 
   -- Where 4 is kept, no block is cut short.
   pub layout_uncut : bad_layout s ≡ false → (any_cut s n ≡ false) × (start_of s n + n ≡ length s)
@@ -107,6 +107,6 @@ module _ (s : List ℕ) (n : ℕ) (en : n ≡ component_count s) where
     plan_read = rw (d, w, ← en)
 
     -- The tests 6 to 11 of that plan, where 6, 7 and 8 were tested block by block.
-    pub rules-read : n ≤ most_components → flaw_tests r.flaws ++ structure_tests n (structure_in es n) ≡ rules (plan_in s)
+    pub rules_read : n ≤ most_components → flaw_tests r.flaws ++ structure_tests n (structure_in es n) ≡ rules (plan_in s)
     unfolding plan_in
-    rules-read l = rw (d, w, components_are s (rw (← en) l), ← en)
+    rules_read l = rw (d, w, components_are s (rw (← en) l), ← en)

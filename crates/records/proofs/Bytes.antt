@@ -9,12 +9,12 @@ use lib.Seq.{drop-cons, take-suc, append_snoc, set_at, length-take-le, get_or-ta
 use Rattle.numbers.proofs.Numbers.{part_cons, back}
 use Rattle.records.specs.Store.{moved_up, moved_to_front, zeroed}
 
-pub moved_up-none : (s : List ℕ) (to : ℕ) → s ≡ moved_up s to to
-moved_up-none s to = let e : to - to ≡ 0 = omega arith in rw e (sym (take-append-drop (to + 12) s))
+pub moved_up_none : (s : List ℕ) (to : ℕ) → s ≡ moved_up s to to
+moved_up_none s to = let e : to - to ≡ 0 = omega arith in rw e (sym (take-append-drop (to + 12) s))
 
-pub moved_up-more : (s : List ℕ) (i to : ℕ) → i < to → to + 12 ≤ length s
+pub moved_up_more : (s : List ℕ) (i to : ℕ) → i < to → to + 12 ≤ length s
     → set (moved_up s (i + 1) to) (i + 12) (get_or (moved_up s (i + 1) to) i 0) ≡ moved_up s i to
-moved_up-more s i to h k =
+moved_up_more s i to h k =
     let t : List ℕ = take (to - (i + 1)) (drop (i + 1) s) ++ drop (to + 12) s in
     let read : get_or (moved_up s (i + 1) to) i 0 ≡ get_or s i 0 =
     get_or-append (take (i + 1 + 12) s) t 0 i (rw (length-take-le (i + 1 + 12) s (omega arith)) (omega arith)) ∙ get_or-take (i + 1 + 12) s i 0 (omega arith) in
@@ -25,9 +25,9 @@ moved_up-more s i to h k =
     ∙ back s t (i + 12) (get_or s i 0) (omega arith)
     ∙ ap (λ (l : List ℕ). take (i + 12) s ++ (l ++ drop (to + 12) s)) (sym (part_cons s i (to - (i + 1)) (omega arith)) ∙ ap (λ (n : ℕ). take n (drop i s)) e2)
 
-pub moved_to_front-more : (s : List ℕ) (start i : ℕ) → start + i < length s
+pub moved_to_front_more : (s : List ℕ) (start i : ℕ) → start + i < length s
     → set (moved_to_front s start i) i (get_or (moved_to_front s start i) (start + i) 0) ≡ moved_to_front s start (i + 1)
-moved_to_front-more s start i h =
+moved_to_front_more s start i h =
     let t : List ℕ = drop start s in
     let lt : length t ≡ length s - start = length-drop start s in
     let l : length (take i t) ≡ i = length-take-le i t (omega arith) in
@@ -42,11 +42,11 @@ moved_to_front-more s start i h =
     ∙ set_at (take i t) (get_or s i 0) (drop (suc i) s) (get_or t i 0) i l
     ∙ rw (add-one, take-suc t i 0 hi) (sym (append_snoc (take i t) (get_or t i 0) (drop (suc i) s)))
 
-pub zeroed-none : (s : List ℕ) (from : ℕ) → s ≡ zeroed s from from
-zeroed-none s from = let e : from - from ≡ 0 = omega arith in rw e (sym (take-append-drop from s))
+pub zeroed_none : (s : List ℕ) (from : ℕ) → s ≡ zeroed s from from
+zeroed_none s from = let e : from - from ≡ 0 = omega arith in rw e (sym (take-append-drop from s))
 
-pub zeroed-more : (s : List ℕ) (from i : ℕ) → from ≤ i → i < length s → set (zeroed s from i) i 0 ≡ zeroed s from (i + 1)
-zeroed-more s from i f h =
+pub zeroed_more : (s : List ℕ) (from i : ℕ) → from ≤ i → i < length s → set (zeroed s from i) i 0 ≡ zeroed s from (i + 1)
+zeroed_more s from i f h =
     let z : List ℕ = replicate (i - from) 0 in
     let l : length (take from s ++ z) ≡ i = length-append (take from s) z ∙ rw (length-take-le from s (omega arith), length-replicate) (omega arith) in
     let e : i - from + 1 ≡ i + 1 - from = omega arith in

@@ -17,8 +17,8 @@ use Rattle.records.specs.Records.{bytes_of, encode, record_at, records}
 use Rattle.records.specs.Store.{with_record, moved_up, holding}
 use Rattle.records.specs.Insertion.{place, insertion_of, insert_or_stay}
 use Rattle.numbers.specs.Numbers.{Bytes}
-use Rattle.records.proofs.Records.{interval_at, length-encode, length-records, records_at, encode-append, holds, take-encode, drop-encode}
-use Rattle.records.proofs.Place.{insert_met, insert_new, place-count}
+use Rattle.records.proofs.Records.{interval_at, length-encode, length-records, records_at, encode_append, holds, take-encode, drop-encode}
+use Rattle.records.proofs.Place.{insert_met, insert_new, place_count}
 
 pub stay_fits : (f : Focal) (l : List Focal) → length (inserted f l) ≤ most_intervals → insert_or_stay f l ≡ inserted f l
 stay_fits f l h = rw (le-leb (length (inserted f l)) most_intervals h)
@@ -43,7 +43,7 @@ module _ (n : ℕ) (s : List ℕ) (b : Bytes s) (f : 12 * n ≤ length s) (p : �
 -- A front, one record and a back make one list.
 spread : (x : List Focal) (f : Focal) (y : List Focal) (t : List ℕ) → encode x ++ (bytes_of f ++ (encode y ++ t)) ≡ encode (x ++ (f ∷ y)) ++ t
 unfolding encode
-spread x f y t = rw (encode-append, append_assoc, append_assoc)
+spread x f y t = rw (encode_append, append_assoc, append_assoc)
 
 -- What an insertion of f into the n records of s answers and leaves.
 abbrev pub Inserted : ℕ → List ℕ → List ℕ → Focal → Insertion → Type 0
@@ -81,7 +81,7 @@ module _ (n : ℕ) (s : List ℕ) (b : Bytes s) (f : Focal) (p : ℕ) (pe : p �
         (λ q. let h : p < n = omega (arith, length-records n s) in rw (← pe, records_at n p s h) (new h)))
 
     within : p ≤ n
-    within = omega (arith, place-count n s f)
+    within = omega (arith, place_count n s f)
 
     longer : length (inserted f (records n s)) ≡ n + 1
     longer =

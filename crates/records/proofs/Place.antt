@@ -14,7 +14,7 @@ use borrow.Author.Tests.{lt-ltb, le-ltb, eq-eqb, ne_eqb}
 use Rattle.theory.specs.Sums.{Every}
 use Rattle.theory.specs.Focal.{Focal, no_focal}
 use Rattle.theory.specs.Order.{order, Before, InOrder, inserted, merged}
-use Rattle.theory.proofs.Order.{Placed, placed, before_trans, order-before}
+use Rattle.theory.proofs.Order.{Placed, placed, before_trans, order_before}
 use Rattle.theory.proofs.Every.{index_of_every}
 use Rattle.theory.proofs.Lists.{insert_skip, insert_here, insert_same}
 use Rattle.numbers.specs.Numbers.{Bytes}
@@ -66,9 +66,9 @@ key_tests s i key b =
 
 -- ---- the place
 
-place-within : (f : Focal) (l : List Focal) → place f l ≤ length l
-place-within f [] = omega arith
-place-within f (g ∷ gs) = go (is_before (order g f)) (place-within f gs)
+place_within : (f : Focal) (l : List Focal) → place f l ≤ length l
+place_within f [] = omega arith
+place_within f (g ∷ gs) = go (is_before (order g f)) (place_within f gs)
   where
     go : (b : Bool) → place f gs ≤ length gs → cond b (suc (place f gs)) 0 ≤ suc (length gs)
     go true h = omega arith
@@ -89,9 +89,9 @@ place_front f (g ∷ gs) = go (is_before (order g f)) refl (place_front f gs)
     go false e r = Every.none
 
 -- and the one at it does not.
-place-stop : (f : Focal) (l : List Focal) → place f l < length l → is_before (order (interval_at l (place f l)) f) ≡ false
-place-stop f [] h = absurd (not-suc-le-zero h)
-place-stop f (g ∷ gs) h = go (is_before (order g f)) refl (place-stop f gs) h
+place_stop : (f : Focal) (l : List Focal) → place f l < length l → is_before (order (interval_at l (place f l)) f) ≡ false
+place_stop f [] h = absurd (not-suc-le-zero h)
+place_stop f (g ∷ gs) h = go (is_before (order g f)) refl (place_stop f gs) h
   where
     go : (b : Bool) → is_before (order g f) ≡ b → (place f gs < length gs → is_before (order (interval_at gs (place f gs)) f) ≡ false)
         → cond b (suc (place f gs)) 0 < suc (length gs) → is_before (order (interval_at (g ∷ gs) (cond b (suc (place f gs)) 0)) f) ≡ false
@@ -99,33 +99,33 @@ place-stop f (g ∷ gs) h = go (is_before (order g f)) refl (place-stop f gs) h
     go false e r h = e
 
 -- A test of the interval at m bounds the place.
-place-below : (f : Focal) (l : List Focal) (m : ℕ) → m < length l → is_before (order (interval_at l m) f) ≡ false → place f l ≤ m
-place-below f [] m h e = absurd (not-suc-le-zero h)
-place-below f (g ∷ gs) zero h e = rw e (omega arith)
-place-below f (g ∷ gs) (suc m) h e = go (is_before (order g f)) (place-below f gs m (le_of_suc-le-suc h) e)
+place_below : (f : Focal) (l : List Focal) (m : ℕ) → m < length l → is_before (order (interval_at l m) f) ≡ false → place f l ≤ m
+place_below f [] m h e = absurd (not-suc-le-zero h)
+place_below f (g ∷ gs) zero h e = rw e (omega arith)
+place_below f (g ∷ gs) (suc m) h e = go (is_before (order g f)) (place_below f gs m (le_of_suc-le-suc h) e)
   where
     go : (b : Bool) → place f gs ≤ m → cond b (suc (place f gs)) 0 ≤ suc m
     go true h = omega arith
     go false h = omega arith
 
-place-above : (f : Focal) {l : List Focal} → InOrder l → (m : ℕ) → m < length l → is_before (order (interval_at l m) f) ≡ true → m < place f l
-place-above f InOrder.none m h e = absurd (not-suc-le-zero h)
-place-above f (InOrder.more {f = g} {fs = gs} b r) zero h e = rw e (omega arith)
-place-above f (InOrder.more {f = g} {fs = gs} b r) (suc m) h e =
-    let k : m < place f gs = place-above f r m (le_of_suc-le-suc h) e in
+place_above : (f : Focal) {l : List Focal} → InOrder l → (m : ℕ) → m < length l → is_before (order (interval_at l m) f) ≡ true → m < place f l
+place_above f InOrder.none m h e = absurd (not-suc-le-zero h)
+place_above f (InOrder.more {f = g} {fs = gs} b r) zero h e = rw e (omega arith)
+place_above f (InOrder.more {f = g} {fs = gs} b r) (suc m) h e =
+    let k : m < place f gs = place_above f r m (le_of_suc-le-suc h) e in
     let p : Before g f = before_trans g (interval_at gs m) f (index_of_every no_focal b m (le_of_suc-le-suc h)) (before_true (interval_at gs m) f e) in
-    rw (ap is_before (order-before g f p)) (omega arith)
+    rw (ap is_before (order_before g f p)) (omega arith)
 
 -- The same holds of record m of a buffer.
 module _ (n : ℕ) (s : List ℕ) (f : Focal) where
-  pub tested-above : InOrder (records n s) → (m : ℕ) → m < n → is_before (order (record_at s m) f) ≡ true → m < place f (records n s)
-  tested-above o m h e = place-above f o m (rw length-records h) (ap (λ (g : Focal). is_before (order g f)) (records_at n m s h) ∙ e)
+  pub tested_above : InOrder (records n s) → (m : ℕ) → m < n → is_before (order (record_at s m) f) ≡ true → m < place f (records n s)
+  tested_above o m h e = place_above f o m (rw length-records h) (ap (λ (g : Focal). is_before (order g f)) (records_at n m s h) ∙ e)
 
-  pub tested-below : (m : ℕ) → m < n → is_before (order (record_at s m) f) ≡ false → place f (records n s) ≤ m
-  tested-below m h e = place-below f (records n s) m (rw length-records h) (ap (λ (g : Focal). is_before (order g f)) (records_at n m s h) ∙ e)
+  pub tested_below : (m : ℕ) → m < n → is_before (order (record_at s m) f) ≡ false → place f (records n s) ≤ m
+  tested_below m h e = place_below f (records n s) m (rw length-records h) (ap (λ (g : Focal). is_before (order g f)) (records_at n m s h) ∙ e)
 
-  pub place-count : place f (records n s) ≤ n
-  place-count = omega (arith, place-within f (records n s), length-records n s)
+  pub place_count : place f (records n s) ≤ n
+  place_count = omega (arith, place_within f (records n s), length-records n s)
 
 -- ---- an insertion, from the place
 
@@ -149,5 +149,5 @@ insert_new f l e =
     (λ q. let d : drop p l ≡ [] = drop_of_length-le l {i = p} (omega arith) in ap (inserted f) d ∙ ap (λ (k : List Focal). f ∷ k) (sym d))
     (λ h.
     let d : drop p l ≡ interval_at l p ∷ drop (suc p) l = drop-cons l p no_focal h in
-    ap (inserted f) d ∙ insert_here f (interval_at l p) (neither (interval_at l p) f (place-stop f l h) (e h)) (drop (suc p) l) ∙ ap (λ (k : List Focal). f ∷ k) (sym d))
-    (eq-or-lt_of_le (place-within f l)))
+    ap (inserted f) d ∙ insert_here f (interval_at l p) (neither (interval_at l p) f (place_stop f l h) (e h)) (drop (suc p) l) ∙ ap (λ (k : List Focal). f ∷ k) (sym d))
+    (eq-or-lt_of_le (place_within f l)))

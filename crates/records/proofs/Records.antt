@@ -10,7 +10,7 @@ use lib.Seq.{drop-cons, drop-drop, take-add, length-take-le, take_at, drop_at, t
 use Rattle.theory.specs.Sums.{Every}
 use Rattle.theory.specs.Focal.{Focal, weights, no_focal}
 use Rattle.numbers.specs.Numbers.{big_endian, number_at, Bytes}
-use Rattle.numbers.proofs.Numbers.{number-split, number_lt, bytes_drop, bytes_take, big_endian-onto, read_back}
+use Rattle.numbers.proofs.Numbers.{number_split, number_lt, bytes_drop, bytes_take, big_endian-onto, read_back}
 use Rattle.records.specs.Records.{key_of, keyed, bytes_of, encode, head_record, record_at, records, with_weight, Under, speed_limit}
 use Rattle.records.specs.Store.{replaced, holding}
 
@@ -18,7 +18,7 @@ use Rattle.records.specs.Store.{replaced, holding}
 
 pub key_is : (s : List ℕ) (k : ℕ) → k + 4 ≤ length s → number_at s k 4 ≡ key_of (head_record (drop k s))
 unfolding head_record
-key_is s k h = number-split (drop k s) 0 2 2 (rw length-drop (omega arith))
+key_is s k h = number_split (drop k s) 0 2 2 (rw length-drop (omega arith))
 
 pub ends_are : (s : List ℕ) (k : ℕ) → (number_at s k 2 ≡ (head_record (drop k s)).low) × (number_at s (k + 2) 2 ≡ (head_record (drop k s)).high)
 unfolding head_record
@@ -29,11 +29,11 @@ unfolding head_record
 weight_is s k h =
     let e : k + 4 + 4 ≡ k + 8 = omega arith in
     let whole : number_at s (k + 4) 8 ≡ number_at (drop k s) 4 8 = rw drop-drop in
-    sym (rw e at (number-split s (k + 4) 4 4 (omega arith))) ∙ whole
+    sym (rw e at (number_split s (k + 4) 4 4 (omega arith))) ∙ whole
 
-bytes-key : (key : ℕ) → big_endian 4 key ≡ big_endian 2 (key / speed_limit) ++ big_endian 2 (key % speed_limit)
+bytes_key : (key : ℕ) → big_endian 4 key ≡ big_endian 2 (key / speed_limit) ++ big_endian 2 (key % speed_limit)
 unfolding big_endian
-bytes-key key =
+bytes_key key =
     let e0 : key / 16777216 % 256 ≡ key / 65536 / 256 % 256 = omega arith in
     let e1 : key / 65536 % 256 ≡ key / 65536 / 1 % 256 = omega arith in
     let e2 : key / 256 % 256 ≡ key % 65536 / 256 % 256 = omega arith in
@@ -45,11 +45,11 @@ unfolding bytes_of big_endian
 length_bytes_of r = refl
 
 -- A key gives back the ends of its interval, and the interval.
-pub key-ends : (f : Focal) {key : ℕ} → key ≡ key_of f → f.high < speed_limit → (key / speed_limit ≡ f.low) × (key % speed_limit ≡ f.high)
-key-ends f e h = (omega arith, omega arith)
+pub key_ends : (f : Focal) {key : ℕ} → key ≡ key_of f → f.high < speed_limit → (key / speed_limit ≡ f.low) × (key % speed_limit ≡ f.high)
+key_ends f e h = (omega arith, omega arith)
 
 pub from_key : (f : Focal) → f.high < speed_limit → keyed (key_of f) f.weight ≡ f
-from_key f h = let e = key-ends f {key = key_of f} refl h in λ t. record { low = e.0 t; high = e.1 t; weight = f.weight }
+from_key f h = let e = key_ends f {key = key_of f} refl h in λ t. record { low = e.0 t; high = e.1 t; weight = f.weight }
 
 -- ---- lists of records
 
@@ -62,10 +62,10 @@ unfolding encode
 length-encode [] = refl
 length-encode (x ∷ xs) = length-append (bytes_of x) (encode xs) ∙ rw (length_bytes_of, length-encode xs) (omega arith)
 
-pub encode-append : (a b : List Focal) → encode (a ++ b) ≡ encode a ++ encode b
+pub encode_append : (a b : List Focal) → encode (a ++ b) ≡ encode a ++ encode b
 unfolding encode
-encode-append [] b = refl
-encode-append (x ∷ xs) b = rw (encode-append xs b) (sym (append_assoc (bytes_of x) (encode xs) (encode b)))
+encode_append [] b = refl
+encode_append (x ∷ xs) b = rw (encode_append xs b) (sym (append_assoc (bytes_of x) (encode xs) (encode b)))
 
 pub length-records : (n : ℕ) (s : List ℕ) → length (records n s) ≡ n
 unfolding records
@@ -81,28 +81,28 @@ records_at (suc n) (suc i) s h =
     records_at n i (drop 12 s) (le_of_suc-le-suc h) ∙ ap head_record (drop-drop (12 * i) 12 s ∙ ap (λ (k : ℕ). drop k s) e)
 
 -- A walk along the records takes one after the other.
-pub records-next : (n i : ℕ) (s : List ℕ) → i < n → drop i (records n s) ≡ record_at s i ∷ drop (i + 1) (records n s)
-records-next n i s h =
+pub records_next : (n i : ℕ) (s : List ℕ) → i < n → drop i (records n s) ≡ record_at s i ∷ drop (i + 1) (records n s)
+records_next n i s h =
     let l : i < length (records n s) = rw length-records h in
     rw (drop-cons (records n s) i no_focal l, add-one, records_at n i s h)
 
-pub records-end : (n i : ℕ) (s : List ℕ) → n ≤ i → drop i (records n s) ≡ []
-records-end n i s h = drop_of_length-le (records n s) {i = i} (rw length-records h)
+pub records_end : (n i : ℕ) (s : List ℕ) → n ≤ i → drop i (records n s) ≡ []
+records_end n i s h = drop_of_length-le (records n s) {i = i} (rw length-records h)
 
 -- ---- a record written
 
 -- The weight is stored, and then the key before it.
-pub key-stored : (s : List ℕ) (key weight p : ℕ) → p + 12 ≤ length s → (t : List ℕ) → t ≡ replaced s (p + 4) 8 (big_endian 8 weight)
+pub key_stored : (s : List ℕ) (key weight p : ℕ) → p + 12 ≤ length s → (t : List ℕ) → t ≡ replaced s (p + 4) 8 (big_endian 8 weight)
     → replaced t p 4 (big_endian 4 key) ≡ replaced s p 12 (bytes_of (keyed key weight))
 unfolding bytes_of
-key-stored s key weight p hs t te =
+key_stored s key weight p hs t te =
     let z : List ℕ = big_endian 8 weight ++ drop (p + 4 + 8) s in
     let l : length (take (p + 4) s) ≡ p + 4 = length-take-le (p + 4) s (omega arith) in
     let e : p + 4 + 8 ≡ p + 12 = omega arith in
     let front : take p t ≡ take p s = ap (take p) te ∙ take-append-le p (take (p + 4) s) z (omega arith) ∙ take-take p (p + 4) s (omega arith) in
     let rest : drop (p + 4) t ≡ big_endian 8 weight ++ drop (p + 12) s =
     ap (drop (p + 4)) te ∙ drop_at (take (p + 4) s) z (p + 4) l ∙ ap (λ (n : ℕ). big_endian 8 weight ++ drop n s) e in
-    (λ i. front i ++ (bytes-key key i ++ rest i)) ∙ simp append_assoc
+    (λ i. front i ++ (bytes_key key i ++ rest i)) ∙ simp append_assoc
 
 big_endian_at : (s : List ℕ) (a n : ℕ) → Bytes s → a + n ≤ length s → big_endian n (number_at s a n) ≡ take n (drop a s)
 big_endian_at s a n h k =
@@ -110,10 +110,10 @@ big_endian_at s a n h k =
     ap (λ (m : ℕ). big_endian m (number_at s a n)) (sym l) ∙ big_endian-onto 0 (take n (drop a s)) (bytes_take n (drop a s) (bytes_drop a s h))
 
 -- The weight alone is stored.
-pub weight-stored : (s : List ℕ) (p weight : ℕ) → Bytes s → p + 12 ≤ length s
+pub weight_stored : (s : List ℕ) (p weight : ℕ) → Bytes s → p + 12 ≤ length s
     → replaced s (p + 4) 8 (big_endian 8 weight) ≡ replaced s p 12 (bytes_of (with_weight (head_record (drop p s)) weight))
 unfolding bytes_of head_record
-weight-stored s p w b h =
+weight_stored s p w b h =
     let t : List ℕ = drop p s in
     let bt : Bytes t = bytes_drop p s b in
     let lt : length t ≡ length s - p = length-drop p s in
@@ -145,16 +145,16 @@ head_back : (r : Focal) (t : List ℕ) → Under speed_limit r → r.weight < 2 
 unfolding head_record bytes_of big_endian
 head_back r t u hw = λ i. record { low = read_back 2 r.low u.0 i; high = read_back 2 r.high u.1 i; weight = read_back 8 r.weight hw i }
 
-drop-back : (r : Focal) (t : List ℕ) → drop 12 (bytes_of r ++ t) ≡ t
+drop_back : (r : Focal) (t : List ℕ) → drop 12 (bytes_of r ++ t) ≡ t
 unfolding bytes_of big_endian
-drop-back r t = refl
+drop_back r t = refl
 
 -- Weights fit 64 bits where their sum does.
 pub records-encode : {l : List Focal} (t : List ℕ) → Every (Under speed_limit) l → weights l < 2 ^ 64 → records (length l) (encode l ++ t) ≡ l
 unfolding records encode
 records-encode t Every.none h = refl
 records-encode t (Every.more {x = f} {xs = fs} u r) h =
-    rw append_assoc (rw (head_back f (encode fs ++ t) u (omega arith), drop-back f (encode fs ++ t), records-encode t r (omega arith)))
+    rw append_assoc (rw (head_back f (encode fs ++ t) u (omega arith), drop_back f (encode fs ++ t), records-encode t r (omega arith)))
 
 head_under : (s : List ℕ) → Bytes s → Under speed_limit (head_record s)
 unfolding head_record
@@ -163,16 +163,16 @@ head_under s h = (number_lt s 0 2 h, number_lt s 2 2 h)
 pub record_under : (s : List ℕ) (i : ℕ) → Bytes s → Under speed_limit (record_at s i)
 record_under s i h = head_under (drop (12 * i) s) (bytes_drop (12 * i) s h)
 
-pub records-under : (n : ℕ) (s : List ℕ) → Bytes s → Every (Under speed_limit) (records n s)
+pub records_under : (n : ℕ) (s : List ℕ) → Bytes s → Every (Under speed_limit) (records n s)
 unfolding records
-records-under zero s h = Every.none
-records-under (suc n) s h = Every.more (head_under s h) (records-under n (drop 12 s) (bytes_drop 12 s h))
+records_under zero s h = Every.none
+records_under (suc n) s h = Every.more (head_under s h) (records_under n (drop 12 s) (bytes_drop 12 s h))
 
 -- ---- a list cut in two
 
 module _ (l : List Focal) (t : List ℕ) (p : ℕ) (h : p ≤ length l) where
   cut_encode : encode l ++ t ≡ encode (take p l) ++ (encode (drop p l) ++ t)
-  cut_encode = ap (λ (k : List Focal). encode k ++ t) (sym (take-append-drop p l)) ∙ rw (encode-append, append_assoc)
+  cut_encode = ap (λ (k : List Focal). encode k ++ t) (sym (take-append-drop p l)) ∙ rw (encode_append, append_assoc)
 
   pub take-encode : take (12 * p) (encode l ++ t) ≡ encode (take p l)
   take-encode =

@@ -42,15 +42,15 @@ pub length-holding : (s : List ℕ) (l : List Focal) → 12 * length l ≤ lengt
 length-holding s l h = length-append (encode l) (drop (12 * length l) s) ∙ rw (length-encode, length-drop) (omega arith)
 
 -- Bytes behind the list are as they were.
-holding-behind : (s : List ℕ) (l : List Focal) (end : ℕ) → 12 * length l ≤ end → drop end (holding s l) ≡ drop end s
-holding-behind s l end h =
+holding_behind : (s : List ℕ) (l : List Focal) (end : ℕ) → 12 * length l ≤ end → drop end (holding s l) ≡ drop end s
+holding_behind s l end h =
     let m : ℕ = end - 12 * length l in
     let e : end ≡ length (encode l) + m = rw length-encode (omega arith) in
     let e2 : 12 * length l + m ≡ end = omega arith in
     ap (λ (n : ℕ). drop n (holding s l)) e ∙ drop-append-add (encode l) (drop (12 * length l) s) m ∙ drop-drop m (12 * length l) s ∙ ap (λ (n : ℕ). drop n s) e2
 
 pub holding_over : (s : List ℕ) (l k : List Focal) → length l ≤ length k → holding (holding s l) k ≡ holding s k
-holding_over s l k h = ap (λ (t : List ℕ). encode k ++ t) (holding-behind s l (12 * length k) (omega arith))
+holding_over s l k h = ap (λ (t : List ℕ). encode k ++ t) (holding_behind s l (12 * length k) (omega arith))
 
 -- ---- a list behind the others
 
@@ -61,13 +61,13 @@ module _ (s : List ℕ) (free : ℕ) (l : List Focal) where
       ∙ rw (length-take-le free s (omega arith), length-holding (drop free s) l (rw length-drop (omega arith)), length-drop) (omega arith)
 
   -- The new list stands there,
-  pub list_in-from : free ≤ length s → Every (Under speed_limit) l → weights l < 2 ^ 64 → list_in (holding_from s free l) free (length l) ≡ l
-  list_in-from h u t =
+  pub list_in_from : free ≤ length s → Every (Under speed_limit) l → weights l < 2 ^ 64 → list_in (holding_from s free l) free (length l) ≡ l
+  list_in_from h u t =
       rw (drop_at (take free s) (holding (drop free s) l) free (length-take-le free s h)) (records-encode (drop (12 * length l) (drop free s)) u t)
 
   -- every list before it stands as it stood,
-  pub list_in-before : (start n : ℕ) → free ≤ length s → start + 12 * n ≤ free → list_in (holding_from s free l) start n ≡ list_in s start n
-  list_in-before start n h k =
+  pub list_in_before : (start n : ℕ) → free ≤ length s → start + 12 * n ≤ free → list_in (holding_from s free l) start n ≡ list_in s start n
+  list_in_before start n h k =
       let t : List ℕ = holding (drop free s) l in
       let lt : length (take free s) ≡ free = length-take-le free s h in
       rw (drop-append-le start (take free s) t (omega arith))
@@ -75,14 +75,14 @@ module _ (s : List ℕ) (free : ℕ) (l : List Focal) where
       ∙ ap (records n) (sym (drop-append-le start (take free s) (drop free s) (omega arith)) ∙ ap (drop start) (take-append-drop free s)))
 
   -- and later bytes are as they were.
-  pub drop-from : (end : ℕ) → free + 12 * length l ≤ end → free ≤ length s → drop end (holding_from s free l) ≡ drop end s
-  drop-from end h k =
+  pub drop_from : (end : ℕ) → free + 12 * length l ≤ end → free ≤ length s → drop end (holding_from s free l) ≡ drop end s
+  drop_from end h k =
       let t : List ℕ = holding (drop free s) l in
       let lt : length (take free s) ≡ free = length-take-le free s k in
       let e : end ≡ length (take free s) + (end - free) = omega arith in
       let e2 : free + (end - free) ≡ end = omega arith in
       ap (λ (n : ℕ). drop n (take free s ++ t)) e ∙ drop-append-add (take free s) t (end - free)
-      ∙ holding-behind (drop free s) l (end - free) (omega arith) ∙ drop-drop (end - free) free s ∙ ap (λ (n : ℕ). drop n s) e2
+      ∙ holding_behind (drop free s) l (end - free) (omega arith) ∙ drop-drop (end - free) free s ∙ ap (λ (n : ℕ). drop n s) e2
 
 -- ---- the list at the front
 
@@ -94,9 +94,9 @@ settles s t start n end b h k e =
     let bytes : encode l ≡ take (12 * n) (drop start s) = encode-records n (drop start s) (bytes_drop start s b) (rw length-drop (omega arith)) in
     let q : t ≡ holding s l = e ∙ (λ i. sym bytes i ++ drop (12 * sym ln i) s) in
     let front : take (12 * n) t ≡ encode l = ap (take (12 * n)) q ∙ take_at (encode l) (drop (12 * length l) s) (12 * n) (rw (length-encode, ln)) in
-    let back : drop end t ≡ drop end s = ap (drop end) q ∙ holding-behind s l end (omega arith) in
+    let back : drop end t ≡ drop end s = ap (drop end) q ∙ holding_behind s l end (omega arith) in
     λ i. front i ++ (replicate (end - 12 * sym ln i) 0 ++ back i)
 
 -- It is read back there.
-pub settled-list : (end : ℕ) (s : List ℕ) {l : List Focal} → Every (Under speed_limit) l → weights l < 2 ^ 64 → records (length l) (settled end l s) ≡ l
-settled-list end s {l} u w = records-encode (replicate (end - 12 * length l) 0 ++ drop end s) u w
+pub settled_list : (end : ℕ) (s : List ℕ) {l : List Focal} → Every (Under speed_limit) l → weights l < 2 ^ 64 → records (length l) (settled end l s) ≡ l
+settled_list end s {l} u w = records-encode (replicate (end - 12 * length l) 0 ++ drop end s) u w

@@ -11,7 +11,7 @@ use Rattle.theory.specs.Structure.{named}
 use Rattle.theory.specs.Limits.{entry_count}
 use Rattle.plan.specs.declared.Plan.{Plan}
 use Rattle.plan.specs.Plan.{entry_of, entries_of}
-use Rattle.plan.proofs.Entries.{entries-count, entry_is}
+use Rattle.plan.proofs.Entries.{entries_count, entry_is}
 
 -- How many joins entries have.
 abbrev pub join_count : List Entry → ℕ
@@ -27,4 +27,4 @@ counted (join op ∷ es) = omega (arith, counted es)
 -- The entries from place i on.
 pub drop-entries_of : (p : Plan) (i : ℕ) → i < entry_count p.count → drop i (entries_of p) ≡ entry_of (get_or p.entries i 0) ∷ drop (suc i) (entries_of p)
 drop-entries_of p i h =
-    drop-cons (entries_of p) i (component 0) (omega (arith, entries-count p)) ∙ ap (λ (e : Entry). e ∷ drop (suc i) (entries_of p)) (entry_is p i h)
+    drop-cons (entries_of p) i (component 0) (omega (arith, entries_count p)) ∙ ap (λ (e : Entry). e ∷ drop (suc i) (entries_of p)) (entry_is p i h)

@@ -11,7 +11,7 @@ use Rattle.theory.specs.Focal.{Focal}
 use Rattle.theory.specs.Limits.{most_intervals, most_components, record_bytes, list_bytes}
 use Rattle.records.specs.Records.{Storable}
 use Rattle.records.specs.Store.{list_in, holding_from, zeroed, settled}
-use Rattle.records.proofs.Store.{length_from, list_in-from, list_in-before, drop-from}
+use Rattle.records.proofs.Store.{length_from, list_in_from, list_in_before, drop_from}
 use Rattle.run.specs.declared.Stack.{Stack}
 use Rattle.run.specs.Stack.{lists_below, with_list}
 use Rattle.run.specs.Run.{cleared}
@@ -46,21 +46,21 @@ module _ {size : ℕ} {store₀ store : List ℕ} {st : Stack} (stored : Stored 
   start_below : (k : ℕ) → (k ≡ d → ⊥) → get_or (set st.starts d st.free) k 0 ≡ get_or st.starts k 0
   start_below k e = get_or-set_other st.starts d k st.free 0 e
 
-  count-below : (k : ℕ) → (k ≡ d → ⊥) → get_or (set st.counts d (length l)) k 0 ≡ get_or st.counts k 0
-  count-below k e = get_or-set_other st.counts d k (length l) 0 e
+  count_below : (k : ℕ) → (k ≡ d → ⊥) → get_or (set st.counts d (length l)) k 0 ≡ get_or st.counts k 0
+  count_below k e = get_or-set_other st.counts d k (length l) 0 e
 
-  below-same : (e : ℕ) → e ≤ d → lists_below (holding_from store st.free l) next e ≡ lists_below store st e
-  below-same zero h = refl
-  below-same (suc e) h =
+  below_same : (e : ℕ) → e ≤ d → lists_below (holding_from store st.free l) next e ≡ lists_below store st e
+  below_same zero h = refl
+  below_same (suc e) h =
       ap₂ ◌∷◌
-      (ap₂ (list_in (holding_from store st.free l)) (start_below e (λ q. omega arith)) (count-below e (λ q. omega arith))
-      ∙ list_in-before store st.free l (get_or st.starts e 0) (get_or st.counts e 0) inside (stored.apart e (omega arith)).0)
-      (below-same e (omega arith))
+      (ap₂ (list_in (holding_from store st.free l)) (start_below e (λ q. omega arith)) (count_below e (λ q. omega arith))
+      ∙ list_in_before store st.free l (get_or st.starts e 0) (get_or st.counts e 0) inside (stored.apart e (omega arith)).0)
+      (below_same e (omega arith))
 
   pub on_top : Storable l → lists_below (holding_from store st.free l) next (d + 1) ≡ l ∷ lists_below store st d
   on_top u =
       ap (lists_below (holding_from store st.free l) next) (add-one d)
-      ∙ ap₂ ◌∷◌ (ap₂ (list_in (holding_from store st.free l)) start_top count_top ∙ list_in-from store st.free l inside u.0 u.1) (below-same d (omega arith))
+      ∙ ap₂ ◌∷◌ (ap₂ (list_in (holding_from store st.free l)) start_top count_top ∙ list_in_from store st.free l inside u.0 u.1) (below_same d (omega arith))
 
   pub stored_next : Stored size store₀ (holding_from store st.free l) next
   stored_next = record {
@@ -68,10 +68,10 @@ module _ {size : ℕ} {store₀ store : List ℕ} {st : Stack} (stored : Stored 
     counts = length-set st.counts d (length l) ∙ stored.counts;
     apart = λ k q. elim (ℕ_discrete k d) [
       | yes e ↦ rw e (omega (arith, start_top, count_top))
-      | no e ↦ omega (arith, start_below k e, count-below k e, stored.apart k (omega arith))
+      | no e ↦ omega (arith, start_below k e, count_below k e, stored.apart k (omega arith))
     ];
     same_length = length_from store st.free l (omega (arith, stored.same_length)) ∙ stored.same_length;
-    later = drop-from store st.free l size (omega arith) inside ∙ stored.later;
+    later = drop_from store st.free l size (omega arith) inside ∙ stored.later;
   }
 
 -- What the end of a run makes of the first n bytes.

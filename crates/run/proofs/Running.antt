@@ -23,24 +23,24 @@ use Rattle.theory.specs.declared.Component.{Component}
 use Rattle.theory.specs.declared.Join.{Join}
 use Rattle.theory.proofs.Every.{index_of_every}
 use Rattle.theory.proofs.Structure.{named-length}
-use Rattle.theory.proofs.Totals.{fits-pairs, fits_join, fits-weights, fits-leaf, Fits}
+use Rattle.theory.proofs.Totals.{fits_pairs, fits_join, fits_weights, fits_leaf, Fits}
 use Rattle.records.specs.Store.{holding_from}
 use Rattle.records.proofs.Records.{length-records}
-use Rattle.records.proofs.Store.{drop-from}
+use Rattle.records.proofs.Store.{drop_from}
 use Rattle.joins.specs.Filling.{Filled, fill}
 use Rattle.joins.specs.Joins.{Operand}
 use Rattle.joins.proofs.Filling.{grown}
-use Rattle.joins.proofs.Answer.{fill-made}
+use Rattle.joins.proofs.Answer.{fill_made}
 use Rattle.plan.specs.declared.Plan.{Plan}
 use Rattle.plan.specs.Plan.{component_at, components_of, entries_of}
 use Rattle.plan.specs.Valid.{Known}
-use Rattle.plan.proofs.Entries.{known-component, components-count, component_is}
+use Rattle.plan.proofs.Entries.{known_component, components_count, component_is}
 use Rattle.run.specs.declared.Stack.{Stack}
 use Rattle.run.specs.declared.Step.{Step}
 use Rattle.run.specs.Stack.{empty_stack, list_at, lists_below, with_list, Pushable, pushed, pushed_store, top_start, top_count, top_list, top_joined, spent, stop, Applicable, join_step, join_store}
 use Rattle.run.specs.Run.{needed, leaf_list, walked, Runnable}
 use Rattle.run.proofs.Entries.{join_count, counted}
-use Rattle.run.proofs.Stacked.{Stacked, none, more, Topmost, top_two_of, fits_record, length-leaf}
+use Rattle.run.proofs.Stacked.{Stacked, none, more, Topmost, top_two_of, fits_record, length_leaf}
 use Rattle.run.proofs.Placing.{Stored, on_top, stored_next}
 
 -- The bytes that the lists of so many components and joins may take, each behind the one before it.
@@ -105,33 +105,33 @@ module _ {p : Plan} {store₀ : List ℕ} (ready : Runnable p store₀) {allowan
     abbrev c : Component
     c = component_at p j
 
-    pub component-below : j < p.count
-    component-below = known-component (every_first running.known).0
+    pub component_below : j < p.count
+    component_below = known_component (every_first running.known).0
 
     of_component : {P : Component → Type 0} → Every P (components_of p) → P c
-    of_component {P} h = subst P (component_is p j component-below) (index_of_every no_component h j (omega (arith, component-below, components-count p)))
+    of_component {P} h = subst P (component_is p j component_below) (index_of_every no_component h j (omega (arith, component_below, components_count p)))
 
     fits : Fits 1 (collect (masses c))
-    fits = fits-leaf c (of_component ready.valid.in_range) (omega (arith, of_component ready.valid.totals, of_component ready.valid.balanced))
+    fits = fits_leaf c (of_component ready.valid.in_range) (omega (arith, of_component ready.valid.totals, of_component ready.valid.balanced))
 
-    push-room : (st.depth < most_components) × (st.free + list_bytes ≤ needed p)
-    push-room = omega (arith, running.height, running.unnamed, running.balance, running.room, ready.valid.most)
+    push_room : (st.depth < most_components) × (st.free + list_bytes ≤ needed p)
+    push_room = omega (arith, running.height, running.unnamed, running.balance, running.room, ready.valid.most)
 
     pub pushable : Pushable c store st
     pushable = record {
-      place = push-room.0;
-      room = omega (arith, push-room, ready.enough, running.stored.same_length);
+      place = push_room.0;
+      room = omega (arith, push_room, ready.enough, running.stored.same_length);
       count = (of_component ready.valid.counts).1;
     }
 
-    pub push-next : Running p allowance store₀ rest (pushed_store c store st) (pushed c st)
-    push-next =
+    pub push_next : Running p allowance store₀ rest (pushed_store c store st) (pushed c st)
+    push_next =
         let l : List Focal = collect (masses c) in
-        let short : length l ≤ most_masses = length-leaf c (of_component ready.valid.counts).1 in
+        let short : length l ≤ most_masses = length_leaf c (of_component ready.valid.counts).1 in
         let top : lists_below (pushed_store c store st) (pushed c st) (st.depth + 1) ≡ l ∷ lists_below store st st.depth =
-        on_top running.stored ready.enough st.depth st.pairs l (omega arith) push-room.0 push-room.1 (omega arith) (fits_record fits (omega arith)) in
+        on_top running.stored ready.enough st.depth st.pairs l (omega arith) push_room.0 push_room.1 (omega arith) (fits_record fits (omega arith)) in
         record {
-          stored = stored_next running.stored ready.enough st.depth st.pairs l (omega arith) push-room.0 push-room.1 (omega arith);
+          stored = stored_next running.stored ready.enough st.depth st.pairs l (omega arith) push_room.0 push_room.1 (omega arith);
           held = suc running.held;
           lists = rw top (more {k = suc running.held} fits running.lists (omega arith));
           height = omega (arith, running.height);
@@ -141,20 +141,20 @@ module _ {p : Plan} {store₀ : List ℕ} (ready : Runnable p store₀) {allowan
           two = rw (add-one st.depth) running.two;
           room = omega (arith, running.room, short);
           allowed = running.allowed;
-          walks = rw (top, ← component_is p j component-below) running.walks;
+          walks = rw (top, ← component_is p j component_below) running.walks;
         }
 
   -- ---- a join's entry
   module _ {store : List ℕ} {op : Join} {rest : List Entry} {st : Stack} (running : Running p allowance store₀ (join op ∷ rest) store st) where
-    finds-two : (d : ℕ) → joins_find_two (join op ∷ rest) d ≡ true → (2 ≤ d) × (joins_find_two rest (d - 2 + 1) ≡ true)
-    finds-two zero e = absurd (false≢true e)
-    finds-two (suc zero) e = absurd (false≢true e)
-    finds-two (suc (suc d)) e =
+    finds_two : (d : ℕ) → joins_find_two (join op ∷ rest) d ≡ true → (2 ≤ d) × (joins_find_two rest (d - 2 + 1) ≡ true)
+    finds_two zero e = absurd (false≢true e)
+    finds_two (suc zero) e = absurd (false≢true e)
+    finds_two (suc (suc d)) e =
         let n : suc (suc d) - 2 + 1 ≡ suc d = omega arith in
         (omega arith, rw n e)
 
-    two-there : 2 ≤ st.depth
-    two-there = (finds-two st.depth running.two).0
+    two_there : 2 ≤ st.depth
+    two_there = (finds_two st.depth running.two).0
 
     join_room : (st.depth ≤ most_components) × (st.free + list_bytes ≤ needed p)
     join_room = omega (arith, running.height, running.unnamed, running.balance, running.room, ready.valid.most)
@@ -164,8 +164,8 @@ module _ {p : Plan} {store₀ : List ℕ} (ready : Runnable p store₀) {allowan
 
     split : lists_below store st st.depth ≡ top_list store st 1 ∷ top_list store st 2 ∷ below
     split =
-        let a : st.depth ≡ suc (suc (st.depth - 2)) = omega (arith, two-there) in
-        let b : suc (st.depth - 2) ≡ st.depth - 1 = omega (arith, two-there) in
+        let a : st.depth ≡ suc (suc (st.depth - 2)) = omega (arith, two_there) in
+        let b : suc (st.depth - 2) ≡ st.depth - 1 = omega (arith, two_there) in
         ap (lists_below store st) a ∙ ap (λ k. list_at store st k ∷ top_list store st 2 ∷ below) b
 
     top_two : Topmost running.held (top_list store st 2) (top_list store st 1) below
@@ -181,14 +181,14 @@ module _ {p : Plan} {store₀ : List ℕ} (ready : Runnable p store₀) {allowan
 
     pub applicable : Applicable op allowance store st
     applicable = record {
-      two = two-there;
+      two = two_there;
       place = join_room.0;
       allowed = running.allowed;
       joinable = record {
-        first = operand 2 (omega arith) two-there;
-        second = operand 1 (omega arith) (omega (arith, two-there));
+        first = operand 2 (omega arith) two_there;
+        second = operand 1 (omega arith) (omega (arith, two_there));
         room = omega (arith, join_room, ready.enough, running.stored.same_length);
-        fits = fits-weights (fits-pairs op top_two.fits-left top_two.fits_right) together;
+        fits = fits_weights (fits_pairs op top_two.fits_left top_two.fits_right) together;
       };
     }
 
@@ -212,19 +212,19 @@ module _ {p : Plan} {store₀ : List ℕ} (ready : Runnable p store₀) {allowan
     join_next : spent st ≤ allowance → length list ≤ most_intervals → Running p allowance store₀ rest (holding_from store st.free list) joined_stack
     join_next a b =
         let d : ℕ = st.depth - 2 in
-        let place : d < most_components = omega (arith, join_room, two-there) in
-        let fits : Fits (top_two.m + top_two.n) list = fits_join op top_two.fits-left top_two.fits_right in
+        let place : d < most_components = omega (arith, join_room, two_there) in
+        let fits : Fits (top_two.m + top_two.n) list = fits_join op top_two.fits_left top_two.fits_right in
         let top : lists_below (holding_from store st.free list) joined_stack (d + 1) ≡ list ∷ below =
         on_top running.stored ready.enough d (spent st) list (omega arith) place join_room.1 b (fits_record fits together) in
         record {
           stored = stored_next running.stored ready.enough d (spent st) list (omega arith) place join_room.1 b;
           held = running.held;
           lists = rw top (more fits top_two.stacked top_two.together);
-          height = omega (arith, running.height, running.unnamed, ready.valid.most, two-there);
+          height = omega (arith, running.height, running.unnamed, ready.valid.most, two_there);
           unnamed = running.unnamed;
           known = (every_first running.known).1;
-          balance = omega (arith, running.balance, two-there);
-          two = (finds-two st.depth running.two).1;
+          balance = omega (arith, running.balance, two_there);
+          two = (finds_two st.depth running.two).1;
           room = omega (arith, running.room);
           allowed = a;
           walks = rw top (sym (at_join ∙ rw (le-ltb allowance (spent st) a, le-ltb most_intervals (length list) b) refl));
@@ -248,7 +248,7 @@ module _ {p : Plan} {store₀ : List ℕ} (ready : Runnable p store₀) {allowan
         go false x false y =
             let b : length list ≤ most_intervals = ltb-false most_intervals (length list) y in
             let t : s ≡ record { number = 0; stack = joined_stack } = e ∙ rw (x, y) in
-            let u : after ≡ holding_from store st.free list = f ∙ rw (x, fill-made (pairs op (top_list store st 2) (top_list store st 1)) b) in
+            let u : after ≡ holding_from store st.free list = f ∙ rw (x, fill_made (pairs op (top_list store st 2) (top_list store st 1)) b) in
             (λ z. rw (t, u) (join_next (ltb-false allowance (spent st) x) b), λ z. absurd (z (ap (λ (r : Step). r.number) t)))
 
     -- The bytes behind those that the plan needs stay as they were, at a refusal too.
@@ -261,5 +261,5 @@ module _ {p : Plan} {store₀ : List ℕ} (ready : Runnable p store₀) {allowan
         go : (b : Bool) → drop (needed p) (cond b store (holding_from store st.free made.list)) ≡ drop (needed p) store₀
         go true = running.stored.later
         go false =
-            drop-from store st.free made.list (needed p) (omega (arith, join_room, (grown [] (pairs op (top_list store st 2) (top_list store st 1))).room (omega arith)))
+            drop_from store st.free made.list (needed p) (omega (arith, join_room, (grown [] (pairs op (top_list store st 2) (top_list store st 1))).room (omega arith)))
             (omega (arith, join_room, ready.enough, running.stored.same_length)) ∙ running.stored.later

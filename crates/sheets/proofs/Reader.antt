@@ -10,14 +10,14 @@ use lib.ListN.{length, take, drop, replicate}
 use lib.Seq.{take_at, drop_at}
 use borrow.Author.Tests.{lt-ltb, le-ltb, ltb-true, ltb-false}
 use Rattle.theory.specs.Sums.{Every, more}
-use Rattle.theory.proofs.Every.{every-split}
+use Rattle.theory.proofs.Every.{every_split}
 use Rattle.numbers.specs.Numbers.{big_endian}
 use Rattle.plan.specs.Plan.{zero_plan, cleaned_plan}
 use Rattle.plan.specs.Tests.{test, Unbroken, First}
 use Rattle.plan.proofs.Numbers.{accepted_by, refused_by, first_then}
 use Rattle.reading.specs.Reading.{sheet_tests, read_of}
 use Rattle.reading.specs.declared.Reading.{Reading}
-use Rattle.reading.proofs.Decided.{read_number_is, read-refused}
+use Rattle.reading.proofs.Decided.{read_number_is, read_refused}
 use Rattle.writing.specs.Writing.{written_of, bytes_after}
 use Rattle.writing.specs.declared.Written.{Written}
 use Rattle.writing.proofs.Theorems.{written_is_read, read_is_written}
@@ -51,18 +51,18 @@ module _ (sheet buffer : List ℕ) where
   sheet_refused = refused_by (read_call_tests sheet buffer)
 
   -- Where the sheet is accepted, the buffer is long enough.
-  pub accepted-long : read_number sheet buffer ≡ 0 → plan_bytes ≤ length buffer
-  accepted-long e = behind (every-split (sheet_tests sheet) (sheet_accepted.0 e)).1
+  pub accepted_long : read_number sheet buffer ≡ 0 → plan_bytes ≤ length buffer
+  accepted_long e = behind (every_split (sheet_tests sheet) (sheet_accepted.0 e)).1
     where
       behind : Every Unbroken (test 12 (ltb (length buffer) plan_bytes) ∷ []) → plan_bytes ≤ length buffer
       behind (more e es) = ltb-false (length buffer) plan_bytes e
 
   pub plan_read : read_number sheet buffer ≡ 0 → decode_plan (plan_after sheet buffer) ≡ (read_of sheet).plan
-  plan_read e = ap decode_plan (buffer_long (accepted-long e)).1 ∙ plan_back (read_of sheet).plan (drop plan_bytes buffer) (read_fits sheet)
+  plan_read e = ap decode_plan (buffer_long (accepted_long e)).1 ∙ plan_back (read_of sheet).plan (drop plan_bytes buffer) (read_fits sheet)
 
-  kept-behind : (b : Bool) → ltb (length buffer) plan_bytes ≡ b → drop plan_bytes (plan_after sheet buffer) ≡ drop plan_bytes buffer
-  kept-behind true h = ap (drop plan_bytes) (buffer_short (ltb-true (length buffer) plan_bytes h)).1
-  kept-behind false h =
+  kept_behind : (b : Bool) → ltb (length buffer) plan_bytes ≡ b → drop plan_bytes (plan_after sheet buffer) ≡ drop plan_bytes buffer
+  kept_behind true h = ap (drop plan_bytes) (buffer_short (ltb-true (length buffer) plan_bytes h)).1
+  kept_behind false h =
       ap (drop plan_bytes) (buffer_long (ltb-false (length buffer) plan_bytes h)).1
       ∙ drop_at (encode_plan (read_of sheet).plan) (drop plan_bytes buffer) plan_bytes (plan_length (read_of sheet).plan (read_fits sheet))
 
@@ -70,15 +70,15 @@ module _ (sheet buffer : List ℕ) where
   read = record {
     accepted = sheet_accepted;
     refused_by = sheet_refused;
-    short-kept = λ h. (buffer_short h).1;
+    short_kept = λ h. (buffer_short h).1;
     plan_read = plan_read;
     zeros = λ k h e l.
         let w = buffer_long l in
-        let r = read-refused sheet k h (sym w.0 ∙ e) in
+        let r = read_refused sheet k h (sym w.0 ∙ e) in
         w.1 ∙ ap (λ (x : Reading). encode_plan x.plan ++ drop plan_bytes buffer) r ∙ ap (λ bs. bs ++ drop plan_bytes buffer) zeros_encoded;
-    rest-kept = kept-behind (ltb (length buffer) plan_bytes) refl;
+    rest_kept = kept_behind (ltb (length buffer) plan_bytes) refl;
     unused_zero = λ b e.
-        let z = sym (buffer_long (accepted-long e)).0 ∙ e in
+        let z = sym (buffer_long (accepted_long e)).0 ∙ e in
         let back = read_is_written sheet sheet b b z (omega arith) in
         let again = written_is_read (read_of sheet).plan sheet (ap (λ (x : Written). x.number) back.0) in
         let same : take (written_of (read_of sheet).plan (length sheet)).length (bytes_after (read_of sheet).plan sheet) ≡ sheet =

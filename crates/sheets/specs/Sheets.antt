@@ -44,11 +44,11 @@ module _ (plan sheet answer : List ℕ) where
     pub twelve : write_number ≡ 12 → length_after ≡ answer
     pub length_zero : (k : ℕ) → 0 < k → (k ≡ 12 → ⊥) → write_number ≡ k → length_bytes ≤ length answer
         → length_after ≡ replicate length_bytes 0 ++ drop length_bytes answer
-    pub short-kept : length answer < length_bytes → length_after ≡ answer
+    pub short_kept : length answer < length_bytes → length_after ≡ answer
     -- Accepted, the length is read back, and the bytes behind the sheet and behind its length are untouched.
-    pub length-read : write_number ≡ 0 → number_at length_after 0 length_bytes ≡ length_of (decode_plan plan)
+    pub length_read : write_number ≡ 0 → number_at length_after 0 length_bytes ≡ length_of (decode_plan plan)
     pub sheet_rest : write_number ≡ 0 → drop (length_of (decode_plan plan)) sheet_after ≡ drop (length_of (decode_plan plan)) sheet
-    pub answer-rest : drop length_bytes length_after ≡ drop length_bytes answer
+    pub answer_rest : drop length_bytes length_after ≡ drop length_bytes answer
     -- Where plan and answer buffer are long enough, the number and the sheet are the writer's; 224 bytes hold every sheet.
     pub as_written : plan_bytes ≤ length plan → length_bytes ≤ length answer
         → (write_number ≡ (written_of (decode_plan plan) (length sheet)).number) × (sheet_after ≡ bytes_after (decode_plan plan) sheet)
@@ -74,11 +74,11 @@ module _ (sheet buffer : List ℕ) where
   pub record Read : Type 0 where
     pub accepted : (read_number ≡ 0) ↔ Every Unbroken read_call_tests
     pub refused_by : (k : ℕ) → 0 < k → (read_number ≡ k) ↔ First read_call_tests k
-    pub short-kept : length buffer < plan_bytes → plan_after ≡ buffer
+    pub short_kept : length buffer < plan_bytes → plan_after ≡ buffer
     -- Accepted, the plan is read back; refused for the sheet, it is zeros; the bytes behind are untouched.
     pub plan_read : read_number ≡ 0 → decode_plan plan_after ≡ (read_of sheet).plan
     pub zeros : (k : ℕ) → 0 < k → read_number ≡ k → plan_bytes ≤ length buffer → plan_after ≡ replicate plan_bytes 0 ++ drop plan_bytes buffer
-    pub rest-kept : drop plan_bytes plan_after ≡ drop plan_bytes buffer
+    pub rest_kept : drop plan_bytes plan_after ≡ drop plan_bytes buffer
     -- Places that are not in use are zero.
     pub unused_zero : Bytes sheet → read_number ≡ 0 → cleaned_plan (decode_plan plan_after) ≡ decode_plan plan_after
 
@@ -86,7 +86,7 @@ module _ (sheet buffer : List ℕ) where
 pub record WrittenAlike (plan other sheet answer : List ℕ) : Type 0 where
   pub number : write_number other sheet answer ≡ write_number plan sheet answer
   pub sheet_same : sheet_after other sheet answer ≡ sheet_after plan sheet answer
-  pub length-same : length_after other sheet answer ≡ length_after plan sheet answer
+  pub length_same : length_after other sheet answer ≡ length_after plan sheet answer
 
 abbrev pub UnusedIgnored : Type 0
 UnusedIgnored = (plan other sheet answer : List ℕ) → plan_bytes ≤ length plan → plan_bytes ≤ length other
@@ -95,7 +95,7 @@ UnusedIgnored = (plan other sheet answer : List ℕ) → plan_bytes ≤ length p
 -- Both round trips of the two calls: a written sheet reads back as its plan, in the used places, and a read one, of bytes, is written back
 -- to its bytes.
 pub record RoundTrips : Type 0 where
-  pub written-reads : (plan sheet answer buffer : List ℕ) → write_number plan sheet answer ≡ 0 → plan_bytes ≤ length buffer
+  pub written_reads : (plan sheet answer buffer : List ℕ) → write_number plan sheet answer ≡ 0 → plan_bytes ≤ length buffer
       → let s : List ℕ = take (number_at (length_after plan sheet answer) 0 length_bytes) (sheet_after plan sheet answer) in
       (read_number s buffer ≡ 0) × (plan_after s buffer ≡ encode_plan (cleaned_plan (decode_plan plan)) ++ drop plan_bytes buffer)
   pub read_writes : (s buffer sheet answer : List ℕ) → Bytes s → Bytes sheet → read_number s buffer ≡ 0 → length s ≤ length sheet

@@ -19,8 +19,8 @@ use Rattle.theory.specs.Division.{speeds, Parts, Splits, Divides, Division, put_
 use Rattle.theory.specs.Bounds.{ShareIs, Bounds}
 use Rattle.theory.specs.declared.Component.{Component}
 use Rattle.theory.proofs.Sums.{sum_ext, sum_zero, sum_point}
-use Rattle.theory.proofs.Monotone.{Side, lower, upper, end, end-inside, Bounding, least, greatest, at_least, at_most}
-use Rattle.theory.proofs.Shares.{end_sum, draw_sum, end_sum_cons, draw_sum_cons, put_on-sum, meets, shares, shares_is, share_above_is, share_bound}
+use Rattle.theory.proofs.Monotone.{Side, lower, upper, end, end_inside, Bounding, least, greatest, at_least, at_most}
+use Rattle.theory.proofs.Shares.{end_sum, draw_sum, end_sum_cons, draw_sum_cons, put_on_sum, meets, shares, shares_is, share_above_is, share_bound}
 
 -- A sum over the speeds with one term is that term.
 speeds_point : (a : ℕ) (g : ℕ → ℕ) → a ≤ top_speed → sum_by (λ v. cond (eqb a v) (g v) 0) speeds ≡ g a
@@ -37,7 +37,7 @@ module _ (side : Side) where
 
   module _ (f : Focal) (r : InRange f) where
     end_below : end side f ≤ top_speed
-    end_below = omega (arith, end-inside side f r.low-high, r.below)
+    end_below = omega (arith, end_inside side f r.low_high, r.below)
 
     at_one : (g : ℕ → ℕ) → sum_by (λ s. all_on f s * g s) speeds ≡ f.weight * g (end side f)
     at_one g = sum_ext (λ s. push (eqb (end side f) s) (g s)) speeds ∙ speeds_point (end side f) (λ s. f.weight * g s) end_below
@@ -47,16 +47,16 @@ module _ (side : Side) where
         push false k = zero-mul k
 
     split_one : (s : ℕ) (b : Bool) → eqb (end side f) s ≡ b → 0 < cond b f.weight 0 → Inside f s
-    split_one s true e h = subst (Inside f) (eqb-true (end side f) s e) (end-inside side f r.low-high)
+    split_one s true e h = subst (Inside f) (eqb-true (end side f) s e) (end_inside side f r.low_high)
     split_one s false e h = absurd (lt_irrefl 0 h)
 
-    split-whole : sum_by (all_on f) speeds ≡ 1 * f.weight
-    split-whole = speeds_point (end side f) (λ s. f.weight) end_below ∙ sym (one-mul f.weight)
+    split_whole : sum_by (all_on f) speeds ≡ 1 * f.weight
+    split_whole = speeds_point (end side f) (λ s. f.weight) end_below ∙ sym (one-mul f.weight)
 
   at_all : {fs : List Focal} → Every InRange fs → (g : ℕ → ℕ)
       → sum_by (λ s. put_on (map all_on fs) s * g s) speeds ≡ sum_by (λ f. f.weight * g (end side f)) fs
   at_all Every.none g = sum_ext (λ s. zero-mul (g s)) speeds ∙ sum_zero speeds
-  at_all (Every.more {x = f} {xs = fs} r rs) g = put_on-sum (all_on f) (map all_on fs) g speeds ∙ ap₂ ◌+◌ (at_one f r g) (at_all rs g)
+  at_all (Every.more {x = f} {xs = fs} r rs) g = put_on_sum (all_on f) (map all_on fs) g speeds ∙ ap₂ ◌+◌ (at_one f r g) (at_all rs g)
 
   draws_at : {cs : List Component} → AllInRange cs → (G : List ℕ → ℕ) → draw_sum (at_ends cs) G ≡ end_sum side cs G
   draws_at Every.none G = refl
@@ -69,7 +69,7 @@ module _ (side : Side) where
   splits_at : {fs : List Focal} → Every InRange fs → Splits 1 fs (map all_on fs)
   splits_at Every.none = Forall₂.nil
   splits_at (Every.more {x = f} r rs) =
-      Forall₂.cons (record { inside = λ s. split_one f r s (eqb (end side f) s) refl; whole = split-whole f r }) (splits_at rs)
+      Forall₂.cons (record { inside = λ s. split_one f r s (eqb (end side f) s) refl; whole = split_whole f r }) (splits_at rs)
 
   divides_at : {cs : List Component} → AllInRange cs → Divides 1 cs (at_ends cs)
   divides_at Every.none = Forall₂.nil
@@ -100,8 +100,8 @@ module _ (es : List Entry) {cs : List Component} (r : AllInRange cs) where
   bounds demand_at = record {
     least = λ D i. at_least (share_bound lower D.scale es D.divides (demand_at i));
     greatest = λ D i. at_most (share_bound upper D.scale es D.divides (demand_at i));
-    least-met = (all_at lower, λ i. met lower (demand_at i));
-    greatest-met = (all_at upper, λ i. met upper (demand_at i));
-    least-tight = λ i a b h. at_least (tight lower (demand_at i) a b (λ D. least (h D)));
-    greatest-tight = λ i a b h. at_most (tight upper (demand_at i) a b (λ D. greatest (h D)));
+    least_met = (all_at lower, λ i. met lower (demand_at i));
+    greatest_met = (all_at upper, λ i. met upper (demand_at i));
+    least_tight = λ i a b h. at_least (tight lower (demand_at i) a b (λ D. least (h D)));
+    greatest_tight = λ i a b h. at_most (tight upper (demand_at i) a b (λ D. greatest (h D)));
   }

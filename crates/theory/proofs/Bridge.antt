@@ -19,12 +19,12 @@ use Rattle.theory.specs.Choices.{choices, outcome, outcomes}
 use Rattle.theory.specs.Lists.{drive_list, no_component, outcomes_of, list_of}
 use Rattle.theory.specs.declared.Component.{Component}
 use Rattle.theory.specs.declared.Join.{Join}
-use Rattle.theory.proofs.Sums.{sum_ext, sum-scale, sum-map, sum_swap, sum-one_of_each}
-use Rattle.theory.proofs.Counts.{count-append, by_counts, count-all}
+use Rattle.theory.proofs.Sums.{sum_ext, sum_scale, sum_map, sum_swap, sum_one_of_each}
+use Rattle.theory.proofs.Counts.{count_append, by_counts, count_all}
 use Rattle.theory.proofs.Structure.{NamesEach}
-use Rattle.theory.proofs.Collect.{weigh, same-collect}
-use Rattle.theory.proofs.Steps.{weigh-pairs, positive-outcomes_of, run-map}
-use Rattle.theory.proofs.Every.{every-image, every-one_of_each}
+use Rattle.theory.proofs.Collect.{weigh, same_collect}
+use Rattle.theory.proofs.Steps.{weigh-pairs, positive_outcomes_of, run-map}
+use Rattle.theory.proofs.Every.{every_image, every_one_of_each}
 
 -- What a row of intervals, one for each component, comes to through a sub-structure.
 abbrev outcome_at : List Focal → Tree → Focal
@@ -41,12 +41,12 @@ outcome_at row (node op l r) = joined_focal op (outcome_at row l) (outcome_at ro
     ∙ ap (λ (p : List Tree). get_or (map (λ u. end (outcome_at row u)) p) 0 0) e
 
 -- The outcome goes by the intervals of the components that are named.
-outcome-agree : (t : Tree) (u w : List Focal) → ((j : ℕ) → 0 < count_of j (leaves t) → get_or w j no_focal ≡ get_or u j no_focal) → outcome_at w t ≡ outcome_at u t
-outcome-agree (leaf i) u w h = h i (rw (eq-eqb i i refl) (omega arith))
-outcome-agree (node op l r) u w h =
+outcome_agree : (t : Tree) (u w : List Focal) → ((j : ℕ) → 0 < count_of j (leaves t) → get_or w j no_focal ≡ get_or u j no_focal) → outcome_at w t ≡ outcome_at u t
+outcome_agree (leaf i) u w h = h i (rw (eq-eqb i i refl) (omega arith))
+outcome_agree (node op l r) u w h =
     ap₂ (joined_focal op)
-    (outcome-agree l u w (λ j p. h j (omega (arith, count-append j (leaves l) (leaves r)))))
-    (outcome-agree r u w (λ j p. h j (omega (arith, count-append j (leaves l) (leaves r)))))
+    (outcome_agree l u w (λ j p. h j (omega (arith, count_append j (leaves l) (leaves r)))))
+    (outcome_agree r u w (λ j p. h j (omega (arith, count_append j (leaves l) (leaves r)))))
 
 module _ (cs : List Component) where
   abbrev focals_at : ℕ → List Focal
@@ -76,11 +76,11 @@ module _ (cs : List Component) where
 
   over_swap : (G : List Focal → ℕ) (i j : ℕ) → (i ≡ j → ⊥) → (ks : List ℕ) (row : List Focal) → sum_over (i ∷ j ∷ ks) row G ≡ sum_over (j ∷ i ∷ ks) row G
   over_swap G i j ne ks row =
-      sum_ext (λ f. sym (sum-scale f.weight (λ g. g.weight * sum_over ks (set (set row i f) j g) G) (focals_at j))) (focals_at i)
+      sum_ext (λ f. sym (sum_scale f.weight (λ g. g.weight * sum_over ks (set (set row i f) j g) G) (focals_at j))) (focals_at i)
       ∙ (sum_swap (λ f g. f.weight * (g.weight * sum_over ks (set (set row i f) j g) G)) (focals_at i) (focals_at j)
       ∙ sum_ext (λ g. sum_ext (λ f. mul_left_comm f.weight g.weight (sum_over ks (set (set row i f) j g) G)
       ∙ ap (λ (u : List Focal). g.weight * (f.weight * sum_over ks u G)) (set_comm row i j f g ne)) (focals_at i)
-      ∙ sum-scale g.weight (λ f. f.weight * sum_over ks (set (set row j g) i f) G) (focals_at i)) (focals_at j))
+      ∙ sum_scale g.weight (λ f. f.weight * sum_over ks (set (set row j g) i f) G) (focals_at i)) (focals_at j))
 
   -- Only how often each component is listed matters.
   over_count : (G : List Focal → ℕ) (ks js : List ℕ) → ((j : ℕ) → count_of j js ≡ count_of j ks) → (row : List Focal) → sum_over js row G ≡ sum_over ks row G
@@ -95,13 +95,13 @@ module _ (cs : List Component) where
       let l : i < length row = h i (rw (eq-eqb i i refl) (omega arith)) in
       sum_ext (λ f. ap (λ (x : Focal). f.weight * k x.low x.high) (sym (get_or-set_same row i f no_focal l))) (focals_at i)
   over_tree (node op l r) k row d h =
-      let c : (j : ℕ) → count_of j (leaves l ++ leaves r) ≡ count_of j (leaves l) + count_of j (leaves r) = λ j. count-append j (leaves l) (leaves r) in
+      let c : (j : ℕ) → count_of j (leaves l ++ leaves r) ≡ count_of j (leaves l) + count_of j (leaves r) = λ j. count_append j (leaves l) (leaves r) in
       let both : Focal → Focal → ℕ = λ f g. k (joined op f.low g.low) (joined op f.high g.high) in
       weigh-pairs k op (outcomes_of cs l) (outcomes_of cs r)
       ∙ (over_tree l (λ a b. weigh (λ x y. k (joined op a x) (joined op b y)) (outcomes_of cs r)) row (λ j. omega (arith, d j, c j)) (λ j p. h j (omega (arith, c j)))
       ∙ (over_ext (leaves l) row _ _ (λ u n a.
       over_tree r (λ x y. k (joined op (outcome_at u l).low x) (joined op (outcome_at u l).high y)) u (λ j. omega (arith, d j, c j)) (λ j p. omega (arith, n, h j (omega (arith, c j))))
-      ∙ over_ext (leaves r) u _ _ (λ w m b. ap (λ (x : Focal). both x (outcome_at w r)) (sym (outcome-agree l u w (λ j p. b j (omega (arith, d j, c j)))))))
+      ∙ over_ext (leaves r) u _ _ (λ w m b. ap (λ (x : Focal). both x (outcome_at w r)) (sym (outcome_agree l u w (λ j p. b j (omega (arith, d j, c j)))))))
       ∙ sym (over_append (leaves l) (leaves r) row (λ u. both (outcome_at u l) (outcome_at u r)))))
 
 -- In component order the sum is that over the choices of the components.
@@ -120,9 +120,9 @@ over_choices cs₁ (c' ∷ cs₂) p (x ∷ q) k a b c G =
     ∙ (ap (λ (ds : List Component). sum_over ds js (p ++ (f ∷ []) ++ q) G) (sym (append_snoc cs₁ c' cs₂))
     ∙ (over_choices (cs₁ ++ (c' ∷ [])) cs₂ (p ++ (f ∷ [])) q (suc k) (omega (arith, length-append cs₁ (c' ∷ []))) (omega (arith, length-append p (f ∷ []))) (omega arith) G
     ∙ sum_ext (λ ch. ap (λ (u : List Focal). w ch * G u) (append_snoc p f ch)) (choices cs₂))))
-    ∙ (sym (sum-scale f.weight (λ ch. w ch * G (p ++ f ∷ ch)) (choices cs₂))
+    ∙ (sym (sum_scale f.weight (λ ch. w ch * G (p ++ f ∷ ch)) (choices cs₂))
     ∙ sum_ext (λ ch. sym (mul_assoc f.weight (w ch) (G (p ++ f ∷ ch)))) (choices cs₂))) (masses c')
-    ∙ sym (sum-one_of_each (λ ch. w ch * G (p ++ ch)) (masses c') (map masses cs₂)))
+    ∙ sym (sum_one_of_each (λ ch. w ch * G (p ++ ch)) (masses c') (map masses cs₂)))
 
 -- Every weighted sum over the drive's outcomes is that over the choices of the tree.
 weigh-outcomes : (cs : List Component) (es : List Entry) (t : Tree) → trees es ≡ t ∷ [] → NamesEach (length cs) t
@@ -132,10 +132,10 @@ weigh-outcomes cs es t e names k =
     let row : List Focal = map (λ c. no_focal) cs in
     let n : length row ≡ length cs = length-map cs (λ c. no_focal) in
     let G : List Focal → ℕ = λ u. k (outcome_at u t).low (outcome_at u t).high in
-    sum-map (λ f. f.weight * k f.low f.high) (outcome es) (choices cs)
+    sum_map (λ f. f.weight * k f.low f.high) (outcome es) (choices cs)
     ∙ (sum_ext (λ ch. ap (w ch *◌) (ap₂ k (Φ-tree (λ f. f.low) refl (λ op f g. refl) es t e ch) (Φ-tree (λ f. f.high) refl (λ op f g. refl) es t e ch))) (choices cs)
     ∙ (sym (over_choices [] cs [] row 0 refl refl n G)
-    ∙ (sym (over_count cs G (count_from 0 (length cs)) (leaves t) (λ j. names j ∙ sym (count-all (length cs) j)) row)
+    ∙ (sym (over_count cs G (count_from 0 (length cs)) (leaves t) (λ j. names j ∙ sym (count_all (length cs) j)) row)
     ∙ sym (over_tree cs t k row (λ j. (named j).0) (λ j p. omega (arith, (named j).1 p, n))))))
   where
     named : (j : ℕ) → (count_of j (leaves t) ≤ 1) × (0 < count_of j (leaves t) → j < length cs)
@@ -150,10 +150,10 @@ product_positive : {ch : List Focal} → Every Positive ch → 0 < product_by (�
 product_positive Every.none = omega arith
 product_positive (Every.more p r) = mul-pos p (product_positive r)
 
-positive-outcomes : (es : List Entry) {cs : List Component} → AllPositive cs → Every Positive (outcomes es cs)
-positive-outcomes es p = every-image (outcome es) (λ ch. product_positive) (every-one_of_each (every-image masses (λ c h. h) p))
+positive_outcomes : (es : List Entry) {cs : List Component} → AllPositive cs → Every Positive (outcomes es cs)
+positive_outcomes es p = every_image (outcome es) (λ ch. product_positive) (every_one_of_each (every_image masses (λ c h. h) p))
 
 -- The drive's list is the list of the tree that the structure leaves.
 pub drive_is_tree : {cs : List Component} → AllPositive cs → (es : List Entry) (t : Tree) → trees es ≡ t ∷ [] → NamesEach (length cs) t
     → drive_list es cs ≡ list_of cs t
-drive_is_tree {cs} p es t e names = same-collect (positive-outcomes es p) (positive-outcomes_of p t) (weigh-outcomes cs es t e names)
+drive_is_tree {cs} p es t e names = same_collect (positive_outcomes es p) (positive_outcomes_of p t) (weigh-outcomes cs es t e names)

@@ -13,7 +13,7 @@ use Rattle.theory.specs.Choices.{weight_where, belief, plausibility, weight_at}
 use Rattle.theory.specs.Bounds.{Antitone}
 use Rattle.theory.specs.Order.{order, Before, InOrder, merged, inserted_at, inserted, collect}
 use Rattle.theory.proofs.Sums.{sum_ext, sum_le, cond_mul}
-use Rattle.theory.proofs.Order.{Placed, placed, before_trans, before-apart}
+use Rattle.theory.proofs.Order.{Placed, placed, before_trans, before_apart}
 use Rattle.theory.proofs.Every.{every_map}
 
 -- A weighted sum: each weight times a number that goes by the interval.
@@ -46,29 +46,29 @@ every_insert P m f h (Every.more {x = g} {xs = gs} p r) = go (order f g) (every_
     go Ordering.eq s = Every.more (m f g h p) r
     go Ordering.gt s = Every.more p s
 
-pub before-all : (f g : Focal) → Before f g → {gs : List Focal} → Every (Before g) gs → Every (Before f) (g ∷ gs)
-before-all f g p b = Every.more p (every_map (λ h q. before_trans f g h p q) b)
+pub before_all : (f g : Focal) → Before f g → {gs : List Focal} → Every (Before g) gs → Every (Before f) (g ∷ gs)
+before_all f g p b = Every.more p (every_map (λ h q. before_trans f g h p q) b)
 
 pub order_insert : (f : Focal) {gs : List Focal} → InOrder gs → InOrder (inserted f gs)
 order_insert f InOrder.none = InOrder.more Every.none InOrder.none
 order_insert f (InOrder.more {f = g} {fs = gs} b r) = go (placed f g) (order_insert f r)
   where
     go : {o : Ordering} → Placed f g o → InOrder (inserted f gs) → InOrder (inserted_at o f g gs (inserted f gs))
-    go (Placed.before p) s = InOrder.more (before-all f g p b) (InOrder.more b r)
+    go (Placed.before p) s = InOrder.more (before_all f g p b) (InOrder.more b r)
     go (Placed.same p q) s = InOrder.more b r
     go (Placed.after p) s = InOrder.more (every_insert (Before g) (λ h j q t. t) f p b) s
 
-pub order-collect : (fs : List Focal) → InOrder (collect fs)
-order-collect [] = InOrder.none
-order-collect (f ∷ fs) = order_insert f (order-collect fs)
+pub order_collect : (fs : List Focal) → InOrder (collect fs)
+order_collect [] = InOrder.none
+order_collect (f ∷ fs) = order_insert f (order_collect fs)
 
 -- What holds of every interval, and of two that become one, holds of each interval that is collected.
-pub every-collect : (P : Focal → Type 0) → ((f g : Focal) → P f → P g → P (merged f g)) → {fs : List Focal} → Every P fs → Every P (collect fs)
-every-collect P m Every.none = Every.none
-every-collect P m (Every.more {x = f} p r) = every_insert P m f p (every-collect P m r)
+pub every_collect : (P : Focal → Type 0) → ((f g : Focal) → P f → P g → P (merged f g)) → {fs : List Focal} → Every P fs → Every P (collect fs)
+every_collect P m Every.none = Every.none
+every_collect P m (Every.more {x = f} p r) = every_insert P m f p (every_collect P m r)
 
-pub positive-collect : {fs : List Focal} → Every Positive fs → Every Positive (collect fs)
-positive-collect = every-collect Positive (λ g h q t. omega arith)
+pub positive_collect : {fs : List Focal} → Every Positive fs → Every Positive (collect fs)
+positive_collect = every_collect Positive (λ g h q t. omega arith)
 
 -- The weights that pass a test are never above those that pass a weaker one,
 where_mono : {strong weak : ℕ → ℕ → Bool} → ((low high : ℕ) → strong low high ≡ true → weak low high ≡ true)
@@ -128,7 +128,7 @@ at_self : (f : Focal) (fs : List Focal) → weight_at f.low f.high (f ∷ fs) �
 at_self f fs = rw (eq-eqb f.low f.low refl, eq-eqb f.high f.high refl) refl
 
 at_none : (f : Focal) {gs : List Focal} → Every (Before f) gs → weight_at f.low f.high gs ≡ 0
-at_none f b = where_none (same_ends f.low f.high) (every_map (before-apart f) b)
+at_none f b = where_none (same_ends f.low f.high) (every_map (before_apart f) b)
 
 pub canonical : {fs gs : List Focal} → InOrder fs → Every Positive fs → InOrder gs → Every Positive gs
     → ((a b : ℕ) → weight_at a b fs ≡ weight_at a b gs) → fs ≡ gs
@@ -142,17 +142,17 @@ canonical (InOrder.more {f = f} {fs = fs} b s) (Every.more p q) (InOrder.more {f
   where
     go : {o : Ordering} → Placed f g o → (((x y : ℕ) → weight_at x y fs ≡ weight_at x y gs) → fs ≡ gs) → f ∷ fs ≡ g ∷ gs
     go (Placed.before k) r =
-        absurd (omega (arith, h f.low f.high, at_self f fs, at_none f (before-all f g k c)))
+        absurd (omega (arith, h f.low f.high, at_self f fs, at_none f (before_all f g k c)))
     go (Placed.after k) r =
-        absurd (omega (arith, h g.low g.high, at_self g gs, at_none g (before-all g f k b)))
+        absurd (omega (arith, h g.low g.high, at_self g gs, at_none g (before_all g f k b)))
     go (Placed.same k l) r =
         let w : f.weight ≡ g.weight = omega (arith, h f.low f.high, at_self f fs, at_none f b, ap₂ (λ x y. weight_at x y (g ∷ gs)) k l, at_self g gs, at_none g c) in
         let fg : f ≡ g = λ i. record { low = k i; high = l i; weight = w i } in
         ap₂ ◌∷◌ fg (r (λ x y. omega (arith, h x y, ap (λ (j : Focal). cond (same_ends x y j.low j.high) j.weight 0) fg)))
 
 -- Two lists with the same weighted sums are collected to the same list.
-pub same-collect : {fs gs : List Focal} → Every Positive fs → Every Positive gs → ((k : ℕ → ℕ → ℕ) → weigh k fs ≡ weigh k gs) → collect fs ≡ collect gs
-same-collect {fs} {gs} p q h =
-    canonical (order-collect fs) (positive-collect p) (order-collect gs) (positive-collect q) (λ a b.
+pub same_collect : {fs gs : List Focal} → Every Positive fs → Every Positive gs → ((k : ℕ → ℕ → ℕ) → weigh k fs ≡ weigh k gs) → collect fs ≡ collect gs
+same_collect {fs} {gs} p q h =
+    canonical (order_collect fs) (positive_collect p) (order_collect gs) (positive_collect q) (λ a b.
     let test : ℕ → ℕ → Bool = same_ends a b in
     where_collect test fs ∙ (where_weigh test fs ∙ (h _ ∙ (sym (where_weigh test gs) ∙ sym (where_collect test gs)))))

@@ -9,10 +9,10 @@ use lib.Dec.{eqb, ltb}
 use lib.ListN.{length}
 use borrow.Author.Tests.{eqb-true, eqb-false, eq-eqb, ltb-true, ltb-false}
 use Rattle.theory.specs.Sums.{count_from, count_of, EachOnce}
-use Rattle.theory.proofs.Sums.{sum-append, sum_out, sum_point, length-count}
+use Rattle.theory.proofs.Sums.{sum_append, sum_out, sum_point, length_count}
 
-pub count-append : (i : ℕ) (xs ys : List ℕ) → count_of i (xs ++ ys) ≡ count_of i xs + count_of i ys
-count-append i = sum-append (λ j. cond (eqb i j) 1 0)
+pub count_append : (i : ℕ) (xs ys : List ℕ) → count_of i (xs ++ ys) ≡ count_of i xs + count_of i ys
+count_append i = sum_append (λ j. cond (eqb i j) 1 0)
 
 -- A list without the first k in it.
 abbrev del : ℕ → List ℕ → List ℕ
@@ -30,8 +30,8 @@ module _ {B : Type 0} (F : List ℕ → B) (behind : (i : ℕ) (js ks : List ℕ
       go true e r = ap (λ x. F (x ∷ js)) (sym (eqb-true k j e))
       go false e r = behind j js (k ∷ del k js) (r (omega (arith, rw e at h))) ∙ swap j k (λ q. eqb-false k j e (sym q)) (del k js)
 
-count-del : (i k : ℕ) (js : List ℕ) → 0 < count_of k js → count_of i js ≡ cond (eqb i k) 1 0 + count_of i (del k js)
-count-del i = to_front (count_of i) (λ j js ks. ap (cond (eqb i j) 1 0 +◌)) (λ j k ne ks. omega arith)
+count_del : (i k : ℕ) (js : List ℕ) → 0 < count_of k js → count_of i js ≡ cond (eqb i k) 1 0 + count_of i (del k js)
+count_del i = to_front (count_of i) (λ j js ks. ap (cond (eqb i j) 1 0 +◌)) (λ j k ne ks. omega arith)
 
 -- Then only how often each number is listed matters.
 module _ {B : Type 0} (F : List ℕ → B) (behind : (i : ℕ) (js ks : List ℕ) → F js ≡ F ks → F (i ∷ js) ≡ F (i ∷ ks))
@@ -41,11 +41,11 @@ module _ {B : Type 0} (F : List ℕ → B) (behind : (i : ℕ) (js ks : List ℕ
   by_counts [] (j ∷ js) h = absurd (omega (arith, rw (eq-eqb j j refl) at (h j)))
   by_counts (k ∷ ks) js h =
       let p : 0 < count_of k js = omega (arith, rw (eq-eqb k k refl) at (h k)) in
-      to_front F behind swap k js p ∙ behind k (del k js) ks (by_counts ks (del k js) (λ i. omega (arith, h i, count-del i k js p)))
+      to_front F behind swap k js p ∙ behind k (del k js) ks (by_counts ks (del k js) (λ i. omega (arith, h i, count_del i k js p)))
 
 -- The count from 0 has each number below n once, and no other.
-pub count-all : (n : ℕ) → EachOnce n (count_from 0 n)
-count-all n j = go (ltb j n) refl
+pub count_all : (n : ℕ) → EachOnce n (count_from 0 n)
+count_all n j = go (ltb j n) refl
   where
     go : (b : Bool) → ltb j n ≡ b → count_of j (count_from 0 n) ≡ cond b 1 0
     go true e = sum_point j (λ i. 1) 0 n (omega arith) (omega (arith, ltb-true j n e))
@@ -54,4 +54,4 @@ count-all n j = go (ltb j n) refl
 -- A list that has each number below n once, and no other, has n numbers.
 pub once_length : (n : ℕ) (js : List ℕ) → EachOnce n js → length js ≡ n
 once_length n js once =
-    by_counts length (λ i js ks. ap suc) (λ i j ne ks. refl) (count_from 0 n) js (λ i. once i ∙ sym (count-all n i)) ∙ length-count 0 n
+    by_counts length (λ i js ks. ap suc) (λ i j ne ks. refl) (count_from 0 n) js (λ i. once i ∙ sym (count_all n i)) ∙ length_count 0 n

@@ -9,36 +9,36 @@ pub every_map : {A : Type 0} {P Q : A → Type 0} → ((x : A) → P x → Q x) 
 every_map h Every.none = Every.none
 every_map h (Every.more {x = x} p r) = Every.more (h x p) (every_map h r)
 
-pub every-all : {A : Type 0} {P : A → Type 0} → ((x : A) → P x) → (xs : List A) → Every P xs
-every-all h [] = Every.none
-every-all h (x ∷ xs) = Every.more (h x) (every-all h xs)
+pub every_all : {A : Type 0} {P : A → Type 0} → ((x : A) → P x) → (xs : List A) → Every P xs
+every_all h [] = Every.none
+every_all h (x ∷ xs) = Every.more (h x) (every_all h xs)
 
 -- The property holds of an element, or of what stands past the end.
-pub every-get_or : {A : Type 0} (P : A → Type 0) (z : A) → P z → {xs : List A} → Every P xs → (i : ℕ) → P (get_or xs i z)
-every-get_or P z e Every.none i = e
-every-get_or P z e (Every.more p r) zero = p
-every-get_or P z e (Every.more p r) (suc i) = every-get_or P z e r i
+pub every_get_or : {A : Type 0} (P : A → Type 0) (z : A) → P z → {xs : List A} → Every P xs → (i : ℕ) → P (get_or xs i z)
+every_get_or P z e Every.none i = e
+every_get_or P z e (Every.more p r) zero = p
+every_get_or P z e (Every.more p r) (suc i) = every_get_or P z e r i
 
 pub every_append : {A : Type 0} {P : A → Type 0} {xs ys : List A} → Every P xs → Every P ys → Every P (xs ++ ys)
 every_append Every.none q = q
 every_append (Every.more p r) q = Every.more p (every_append r q)
 
-pub every-split : {A : Type 0} {P : A → Type 0} (xs : List A) {ys : List A} → Every P (xs ++ ys) → Every P xs × Every P ys
-every-split [] h = (Every.none, h)
-every-split (x ∷ xs) (Every.more p r) = let q = every-split xs r in (Every.more p q.0, q.1)
+pub every_split : {A : Type 0} {P : A → Type 0} (xs : List A) {ys : List A} → Every P (xs ++ ys) → Every P xs × Every P ys
+every_split [] h = (Every.none, h)
+every_split (x ∷ xs) (Every.more p r) = let q = every_split xs r in (Every.more p q.0, q.1)
 
-pub every-image : {A B : Type 0} {P : B → Type 0} {Q : A → Type 0} (g : A → B) → ((x : A) → Q x → P (g x)) → {xs : List A} → Every Q xs → Every P (map g xs)
-every-image g h Every.none = Every.none
-every-image g h (Every.more {x = x} p r) = Every.more (h x p) (every-image g h r)
+pub every_image : {A B : Type 0} {P : B → Type 0} {Q : A → Type 0} (g : A → B) → ((x : A) → Q x → P (g x)) → {xs : List A} → Every Q xs → Every P (map g xs)
+every_image g h Every.none = Every.none
+every_image g h (Every.more {x = x} p r) = Every.more (h x p) (every_image g h r)
 
 -- What holds of each element of each list of a row holds of each element taken.
-every-each : {A : Type 0} {P : A → Type 0} {l : List A} → Every P l → (ts : List (List A)) → Every (Every P) ts → Every (Every P) (for_each l (λ x. map (x ∷◌) ts))
-every-each Every.none ts q = Every.none
-every-each (Every.more {x = x} p r) ts q = every_append (every-image (x ∷◌) (λ t s. Every.more p s) q) (every-each r ts q)
+every_each : {A : Type 0} {P : A → Type 0} {l : List A} → Every P l → (ts : List (List A)) → Every (Every P) ts → Every (Every P) (for_each l (λ x. map (x ∷◌) ts))
+every_each Every.none ts q = Every.none
+every_each (Every.more {x = x} p r) ts q = every_append (every_image (x ∷◌) (λ t s. Every.more p s) q) (every_each r ts q)
 
-pub every-one_of_each : {A : Type 0} {P : A → Type 0} {ls : List (List A)} → Every (Every P) ls → Every (Every P) (one_of_each ls)
-every-one_of_each Every.none = Every.more Every.none Every.none
-every-one_of_each (Every.more {xs = ls} p r) = every-each p (one_of_each ls) (every-one_of_each r)
+pub every_one_of_each : {A : Type 0} {P : A → Type 0} {ls : List (List A)} → Every (Every P) ls → Every (Every P) (one_of_each ls)
+every_one_of_each Every.none = Every.more Every.none Every.none
+every_one_of_each (Every.more {xs = ls} p r) = every_each p (one_of_each ls) (every_one_of_each r)
 
 -- The property holds of an element within the list.
 pub index_of_every : {A : Type 0} {P : A → Type 0} (z : A) {xs : List A} → Every P xs → (i : ℕ) → i < length xs → P (get_or xs i z)

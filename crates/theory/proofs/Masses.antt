@@ -16,7 +16,7 @@ use Rattle.theory.specs.Masses.{rest, rest_focal, added_at, added, masses, times
 use Rattle.theory.specs.Choices.{weight_where}
 use Rattle.theory.specs.Rest.{RestAdded}
 use Rattle.theory.specs.declared.Component.{Component}
-use Rattle.theory.proofs.Sums.{length-below}
+use Rattle.theory.proofs.Sums.{length_below}
 use Rattle.theory.proofs.Collect.{where_insert, where_collect}
 use Rattle.theory.proofs.Lists.{insert_merged, insert_commute}
 
@@ -36,10 +36,10 @@ compared a b g = go _ refl _ refl
     go false e y h = apart (λ p q. eqb-false _ _ e p)
 
 -- Where f is added to an equal interval no count changes; otherwise f itself, which was not there, is there once.
-times-added : (a b : ℕ) (f : Focal) (gs : List Focal)
+times_added : (a b : ℕ) (f : Focal) (gs : List Focal)
     → (times_at a b (added f gs) ≡ times_at a b gs) ⊎ ((times_at f.low f.high gs ≡ 0) × (times_at a b (added f gs) ≡ times_at a b (f ∷ gs)))
-times-added a b f [] = inr (refl, refl)
-times-added a b f (g ∷ gs) = go (compared f.low f.high g) (times-added a b f gs)
+times_added a b f [] = inr (refl, refl)
+times_added a b f (g ∷ gs) = go (compared f.low f.high g) (times_added a b f gs)
   where
     go : {t : Bool} → Compared f.low f.high g t
         → (times_at a b (added f gs) ≡ times_at a b gs) ⊎ ((times_at f.low f.high gs ≡ 0) × (times_at a b (added f gs) ≡ times_at a b (f ∷ gs)))
@@ -49,8 +49,8 @@ times-added a b f (g ∷ gs) = go (compared f.low f.high g) (times-added a b f g
     go (apart h) (inl e) = inl (ap (cond (same_ends a b g.low g.high) 1 0 +◌) e)
     go (apart h) (inr (z, e)) = inr (omega arith, omega arith)
 
-distinct-added : (f : Focal) (gs : List Focal) → Distinct gs → Distinct (added f gs)
-distinct-added f gs h a b = go (times-added a b f gs) (compared a b f)
+distinct_added : (f : Focal) (gs : List Focal) → Distinct gs → Distinct (added f gs)
+distinct_added f gs h a b = go (times_added a b f gs) (compared a b f)
   where
     go : {t : Bool} → (times_at a b (added f gs) ≡ times_at a b gs) ⊎ ((times_at f.low f.high gs ≡ 0) × (times_at a b (added f gs) ≡ cond t 1 0 + times_at a b gs))
         → Compared a b f t → times_at a b (added f gs) ≤ 1
@@ -74,9 +74,9 @@ where_added test f gs =
     sym (where_collect test (added f gs))
     ∙ (ap (weight_where test) (collect-added f gs) ∙ (where_insert test f (collect gs) ∙ ap (cond (test f.low f.high) f.weight 0 +◌) (where_collect test gs)))
 
-every-added : (P : Focal → Type 0) → ((f g : Focal) → P f → P g → P (merged f g)) → (f : Focal) → P f → {gs : List Focal} → Every P gs → Every P (added f gs)
-every-added P m f h Every.none = Every.more h Every.none
-every-added P m f h (Every.more {x = g} {xs = gs} p r) = go (same_ends f.low f.high g.low g.high) (every-added P m f h r)
+every_added : (P : Focal → Type 0) → ((f g : Focal) → P f → P g → P (merged f g)) → (f : Focal) → P f → {gs : List Focal} → Every P gs → Every P (added f gs)
+every_added P m f h Every.none = Every.more h Every.none
+every_added P m f h (Every.more {x = g} {xs = gs} p r) = go (same_ends f.low f.high g.low g.high) (every_added P m f h r)
   where
     go : (t : Bool) → Every P (added f gs) → Every P (added_at t f g gs (added f gs))
     go true s = Every.more (m f g h p) r
@@ -94,11 +94,11 @@ length-added f (g ∷ gs) = go (same_ends f.low f.high g.low g.high) (length-add
 
 module _ (c : Component) where
   pub listed-count : length (listed c) ≡ c.count
-  listed-count = length-below (focal_at c) c.count
+  listed-count = length_below (focal_at c) c.count
 
   -- There is a rest, or there is none.
-  pub some-rest : weights (listed c) < c.total → masses c ≡ added (rest_focal c) (listed c)
-  some-rest h = rw (lt-ltb (weights (listed c)) c.total h)
+  pub some_rest : weights (listed c) < c.total → masses c ≡ added (rest_focal c) (listed c)
+  some_rest h = rw (lt-ltb (weights (listed c)) c.total h)
 
   pub no_rest : c.total ≤ weights (listed c) → masses c ≡ listed c
   no_rest h = rw (le-ltb (weights (listed c)) c.total h)
@@ -111,13 +111,13 @@ module _ (c : Component) where
       go false e = g (omega (arith, ltb-false (weights (listed c)) c.total e))
 
   pub range_masses : Every InRange (listed c) → Every InRange (masses c)
-  range_masses h = by_rest (Every InRange) (λ r. every-added InRange (λ f g p q. record { low-high = q.low-high; below = q.below }) (rest_focal c) (record { low-high = omega arith; below = omega arith }) h) (λ z. h)
+  range_masses h = by_rest (Every InRange) (λ r. every_added InRange (λ f g p q. record { low_high = q.low_high; below = q.below }) (rest_focal c) (record { low_high = omega arith; below = omega arith }) h) (λ z. h)
 
-  pub positive-masses : Every Positive (listed c) → Every Positive (masses c)
-  positive-masses h = by_rest (Every Positive) (λ r. every-added Positive (λ f g p q. omega arith) (rest_focal c) r h) (λ z. h)
+  pub positive_masses : Every Positive (listed c) → Every Positive (masses c)
+  positive_masses h = by_rest (Every Positive) (λ r. every_added Positive (λ f g p q. omega arith) (rest_focal c) r h) (λ z. h)
 
-  pub distinct-masses : Distinct (listed c) → Distinct (masses c)
-  distinct-masses h = by_rest Distinct (λ r. distinct-added (rest_focal c) (listed c) h) (λ z. h)
+  pub distinct_masses : Distinct (listed c) → Distinct (masses c)
+  distinct_masses h = by_rest Distinct (λ r. distinct_added (rest_focal c) (listed c) h) (λ z. h)
 
   pub length-masses : c.count ≤ most_held → length (masses c) ≤ most_masses
   length-masses h =
@@ -133,11 +133,11 @@ module _ (c : Component) where
       go true = omega arith
       go false = omega arith
 
-  pub balanced-masses : weights (listed c) ≤ c.total → weights (masses c) ≡ c.total
-  balanced-masses h = where_masses (λ low high. true) ∙ omega arith
+  pub balanced_masses : weights (listed c) ≤ c.total → weights (masses c) ≡ c.total
+  balanced_masses h = where_masses (λ low high. true) ∙ omega arith
 
-  pub rest-added : RestAdded c
-  rest-added = record {
+  pub rest_added : RestAdded c
+  rest_added = record {
     whole = λ e. no_rest (omega arith);
     weight_added = λ a b. where_masses (same_ends a b) ∙ omega arith;
   }

@@ -49,9 +49,9 @@ module _ {A B : Type 0} (h : A → B) (allowance : ℕ) (list : B → List Focal
       ∙ ap (λ (z : B). refuse_if (ltb most_intervals (length (list z))) 14 (walk allowance list lb bb es (z ∷ map h stack) m)) (hb op x y)))
 
 -- The walk on lists, merged at each join, is the image of the evaluation: each sub-structure stands for its list.
-pub evaluate-lists : {cs : List Component} → AllPositive cs → (allowance : ℕ) (es : List Entry)
+pub evaluate_lists : {cs : List Component} → AllPositive cs → (allowance : ℕ) (es : List Entry)
     → walk_lists ◌*◌ allowance (λ i. list_of cs (leaf i)) es [] 0 ≡ image (list_of cs) (evaluate cs allowance es)
-evaluate-lists {cs} p allowance es =
+evaluate_lists {cs} p allowance es =
     sym (walk-map (list_of cs) allowance (λ l. l) leaf node (λ i. list_of cs (leaf i)) join_lists (λ i. refl) (list_of_node p) es [] 0)
 
 -- What an evaluation ends in: a refusal by 13 or 14, or the trees of the structure with the sum of the pairs of their joins.
@@ -76,8 +76,8 @@ module _ (cs : List Component) (allowance : ℕ) where
       let m : ℕ = n + length (list_of cs x) * length (list_of cs y) in
       tested (ltb allowance m) (ltb most_intervals (length (list_of cs (node op x y)))) (walk_ends es (node op x y ∷ stack) m (omega arith))
 
-  evaluate-count : (es : List Entry) (q : List Tree) (m : ℕ) → evaluate cs allowance es ≡ completed q m → (q ≡ trees es) × (m ≡ sum_by (pair_count cs) q)
-  evaluate-count es q m = go (walk_ends es [] 0 refl)
+  evaluate_count : (es : List Entry) (q : List Tree) (m : ℕ) → evaluate cs allowance es ≡ completed q m → (q ≡ trees es) × (m ≡ sum_by (pair_count cs) q)
+  evaluate_count es q m = go (walk_ends es [] 0 refl)
     where
       go : {a : Evaluation Tree} → Ends cs (trees es) a → a ≡ completed q m → (q ≡ trees es) × (m ≡ sum_by (pair_count cs) q)
       go thirteen e = absurd (let z : ◌≡◌ {A = ℕ} 0 1 = cc in omega arith)
@@ -106,7 +106,7 @@ pub method : {cs : List Component} → AllPositive cs → (allowance : ℕ) (es 
     → (stack : List Tree) (pairs : ℕ) → evaluate cs allowance es ≡ completed stack pairs → Leaves cs es stack pairs
 method {cs} p allowance es l names two stack pairs e =
     let (t, one, each) = one_tree (length cs) es l names two in
-    let (same, count) = evaluate-count cs allowance es stack pairs e in
+    let (same, count) = evaluate_count cs allowance es stack pairs e in
     record {
       tree = t;
       built = one;

@@ -24,10 +24,10 @@ joined_mono Series h k = omega arith
 joined_mono Shared h k = omega arith
 joined_mono Spare h k = omega arith
 
-pub joined-within : (op : Join) {top a b : ℕ} → top_speed ≤ top → a ≤ top → b ≤ top → joined op a b ≤ top
-joined-within Series t h k = omega arith
-joined-within Shared t h k = omega arith
-joined-within Spare t h k = omega arith
+pub joined_within : (op : Join) {top a b : ℕ} → top_speed ≤ top → a ≤ top → b ≤ top → joined op a b ≤ top
+joined_within Series t h k = omega arith
+joined_within Shared t h k = omega arith
+joined_within Spare t h k = omega arith
 
 pub test_mono : (d a b : ℕ) → a ≤ b → cond (leb d a) 1 0 ≤ cond (leb d b) 1 0
 test_mono d a b h = go (leb d a) refl
@@ -81,13 +81,13 @@ pub bounding_mul : {side : Side} (k : ℕ) {a b : ℕ} → Bounding side a b →
 bounding_mul k = bounding_mono (k *◌) (λ a b. mul-le-mul_left k)
 
 -- An end bounds what lies inside, and lies inside itself.
-pub end-bounds : (side : Side) (f : Focal) (s : ℕ) → Inside f s → Bounding side (end side f) s
-end-bounds lower f s h = least h.0
-end-bounds upper f s h = greatest h.1
+pub end_bounds : (side : Side) (f : Focal) (s : ℕ) → Inside f s → Bounding side (end side f) s
+end_bounds lower f s h = least h.0
+end_bounds upper f s h = greatest h.1
 
-pub end-inside : (side : Side) (f : Focal) → f.low ≤ f.high → Inside f (end side f)
-end-inside lower f h = (le_refl f.low, h)
-end-inside upper f h = (h, le_refl f.high)
+pub end_inside : (side : Side) (f : Focal) → f.low ≤ f.high → Inside f (end side f)
+end_inside lower f h = (le_refl f.low, h)
+end_inside upper f h = (h, le_refl f.high)
 
 -- Rows of speeds are bounded speed by speed.
 module _ (side : Side) where
@@ -105,7 +105,7 @@ module _ (side : Side) where
 
   pub ends_bound : {ch : List Focal} {v : List ℕ} → Forall₂ Inside ch v → BoundingAll (map (end side) ch) v
   ends_bound Forall₂.nil = Forall₂.nil
-  ends_bound (Forall₂.cons {a = f} {b = s} h r) = Forall₂.cons (end-bounds side f s h) (ends_bound r)
+  ends_bound (Forall₂.cons {a = f} {b = s} h r) = Forall₂.cons (end_bounds side f s h) (ends_bound r)
 
   pub sum_bounding : {A : Type 0} {f g : A → ℕ} → ((x : A) → Bounding side (f x) (g x)) → (xs : List A) → Bounding side (sum_by f xs) (sum_by g xs)
   sum_bounding h [] = bounding_refl side 0

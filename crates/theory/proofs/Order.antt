@@ -1,4 +1,4 @@
--- The order of intervals. What goes by its direction: `placed` and `before-low` here, the search for a speed (Speed), the keys of records.
+-- The order of intervals. What goes by its direction: `placed` and `before_low` here, the search for a speed (Speed), the keys of records.
 -- Assumes nothing.
 use Prim.Native.Nat.{ℕ, ◌≤◌, ◌<◌, compare, Ordering}
 use mathlib.Core.Path.{◌≡◌, refl, sym, ap}
@@ -49,9 +49,9 @@ before_same f g h p q (inl b) = inl (omega arith)
 before_same f g h p q (inr b) = inr (omega arith)
 
 -- The earlier of two intervals has the greater low, or the same.
-pub before-low : (f g : Focal) → Before f g → g.low ≤ f.low
-before-low f g (inl p) = omega arith
-before-low f g (inr p) = omega arith
+pub before_low : (f g : Focal) → Before f g → g.low ≤ f.low
+before_low f g (inl p) = omega arith
+before_low f g (inr p) = omega arith
 
 -- At most one of the three holds, so `order` says which.
 never : (f g : Focal) → f.low ≡ g.low → f.high ≡ g.high → Before f g → ⊥
@@ -72,10 +72,10 @@ placed_unique f g (after b) (after c) = refl
 pub order_is : (f g : Focal) {o : Ordering} → Placed f g o → order f g ≡ o
 order_is f g = placed_unique f g (placed f g)
 
-pub order-before : (f g : Focal) → Before f g → order f g ≡ Ordering.lt
-order-before f g b = order_is f g (before b)
+pub order_before : (f g : Focal) → Before f g → order f g ≡ Ordering.lt
+order_before f g b = order_is f g (before b)
 
 -- Of two intervals one of which comes before the other, the test of sameness is false.
-pub before-apart : (f g : Focal) → Before f g → same_ends f.low f.high g.low g.high ≡ false
-before-apart f g (inl p) = rw (ne_eqb f.low g.low (omega arith)) refl
-before-apart f g (inr p) = rw (eq-eqb f.low g.low (omega arith), ne_eqb f.high g.high (omega arith)) refl
+pub before_apart : (f g : Focal) → Before f g → same_ends f.low f.high g.low g.high ≡ false
+before_apart f g (inl p) = rw (ne_eqb f.low g.low (omega arith)) refl
+before_apart f g (inr p) = rw (eq-eqb f.low g.low (omega arith), ne_eqb f.high g.high (omega arith)) refl

@@ -14,45 +14,45 @@ use Rattle.theory.specs.Order.{collect}
 use Rattle.theory.specs.Lists.{no_component, outcomes_of, list_of}
 use Rattle.theory.specs.declared.Component.{Component}
 use Rattle.theory.specs.declared.Join.{Join}
-use Rattle.theory.proofs.Sums.{sum_ext, sum-scale, sum-map, sum-for_each}
-use Rattle.theory.proofs.Collect.{weigh, weigh-collect, positive-collect, same-collect}
-use Rattle.theory.proofs.Every.{every_append, every-image, every-get_or}
+use Rattle.theory.proofs.Sums.{sum_ext, sum_scale, sum_map, sum_for_each}
+use Rattle.theory.proofs.Collect.{weigh, weigh-collect, positive_collect, same_collect}
+use Rattle.theory.proofs.Every.{every_append, every_image, every_get_or}
 
 -- A weighted sum over the pairs is one over the first list of one over the second.
 pub weigh-pairs : (k : ℕ → ℕ → ℕ) (op : Join) (fs gs : List Focal)
     → weigh k (pairs op fs gs) ≡ weigh (λ a b. weigh (λ c d. k (joined op a c) (joined op b d)) gs) fs
 weigh-pairs k op fs gs =
-    sum-for_each (λ f. f.weight * k f.low f.high) (λ f. map (joined_focal op f) gs) fs
-    ∙ sum_ext (λ f. sum-map (λ h. h.weight * k h.low h.high) (joined_focal op f) gs
+    sum_for_each (λ f. f.weight * k f.low f.high) (λ f. map (joined_focal op f) gs) fs
+    ∙ sum_ext (λ f. sum_map (λ h. h.weight * k h.low h.high) (joined_focal op f) gs
     ∙ (sum_ext (λ g. mul_assoc f.weight g.weight (k (joined op f.low g.low) (joined op f.high g.high))) gs
-    ∙ sum-scale f.weight (λ g. g.weight * k (joined op f.low g.low) (joined op f.high g.high)) gs)) fs
+    ∙ sum_scale f.weight (λ g. g.weight * k (joined op f.low g.low) (joined op f.high g.high)) gs)) fs
 
 -- What holds of the join of any two intervals holds of every pair.
-pub every-pairs : (times : ℕ → ℕ → ℕ) (op : Join) {P Q R : Focal → Type 0} → ((f g : Focal) → P f → Q g → R (joined_by times op f g))
+pub every_pairs : (times : ℕ → ℕ → ℕ) (op : Join) {P Q R : Focal → Type 0} → ((f g : Focal) → P f → Q g → R (joined_by times op f g))
     → {fs gs : List Focal} → Every P fs → Every Q gs → Every R (pairs_by times op fs gs)
-every-pairs times op h Every.none q = Every.none
-every-pairs times op h (Every.more {x = f} p r) q = every_append (every-image (joined_by times op f) (λ g. h f g p) q) (every-pairs times op h r q)
+every_pairs times op h Every.none q = Every.none
+every_pairs times op h (Every.more {x = f} p r) q = every_append (every_image (joined_by times op f) (λ g. h f g p) q) (every_pairs times op h r q)
 
-pub positive-pairs : (op : Join) {fs gs : List Focal} → Every Positive fs → Every Positive gs → Every Positive (pairs op fs gs)
-positive-pairs op = every-pairs ◌*◌ op (λ f g. mul-pos)
+pub positive_pairs : (op : Join) {fs gs : List Focal} → Every Positive fs → Every Positive gs → Every Positive (pairs op fs gs)
+positive_pairs op = every_pairs ◌*◌ op (λ f g. mul-pos)
 
 -- The lists may be collected before they are joined.
 pub collect-pairs : (op : Join) {fs gs : List Focal} → Every Positive fs → Every Positive gs
     → collect (pairs op fs gs) ≡ collect (pairs op (collect fs) (collect gs))
 collect-pairs op {fs} {gs} p q =
-    same-collect (positive-pairs op p q) (positive-pairs op (positive-collect p) (positive-collect q))
+    same_collect (positive_pairs op p q) (positive_pairs op (positive_collect p) (positive_collect q))
     (λ k. weigh-pairs k op fs gs
     ∙ (sum_ext (λ f. ap (f.weight *◌) (sym (weigh-collect (λ c d. k (joined op f.low c) (joined op f.high d)) gs))) fs
     ∙ (sym (weigh-collect (λ a b. weigh (λ c d. k (joined op a c) (joined op b d)) (collect gs)) fs)
     ∙ sym (weigh-pairs k op (collect fs) (collect gs)))))
 
-pub positive-outcomes_of : {cs : List Component} → AllPositive cs → (t : Tree) → Every Positive (outcomes_of cs t)
-positive-outcomes_of p (leaf i) = every-get_or (λ c. Every Positive (masses c)) no_component Every.none p i
-positive-outcomes_of p (node op l r) = positive-pairs op (positive-outcomes_of p l) (positive-outcomes_of p r)
+pub positive_outcomes_of : {cs : List Component} → AllPositive cs → (t : Tree) → Every Positive (outcomes_of cs t)
+positive_outcomes_of p (leaf i) = every_get_or (λ c. Every Positive (masses c)) no_component Every.none p i
+positive_outcomes_of p (node op l r) = positive_pairs op (positive_outcomes_of p l) (positive_outcomes_of p r)
 
 pub list_of_node : {cs : List Component} → AllPositive cs → (op : Join) (l r : Tree)
     → list_of cs (node op l r) ≡ collect (pairs op (list_of cs l) (list_of cs r))
-list_of_node p op l r = collect-pairs op (positive-outcomes_of p l) (positive-outcomes_of p r)
+list_of_node p op l r = collect-pairs op (positive_outcomes_of p l) (positive_outcomes_of p r)
 
 -- One run of the entries is the image of another.
 module _ {A B : Type 0} (h : A → B) (la : ℕ → A) (ba : Join → A → A → A) (lb : ℕ → B) (bb : Join → B → B → B)

@@ -14,9 +14,9 @@ use borrow.Author.Tests.{eqb-true, eqb-false, ne_eqb}
 use Rattle.theory.specs.Sums.{sum_by, for_each, one_of_each, count_from}
 
 module _ {A : Type 0} where
-  pub sum-append : (f : A → ℕ) (xs ys : List A) → sum_by f (xs ++ ys) ≡ sum_by f xs + sum_by f ys
-  sum-append f [] ys = sym (zero-add (sum_by f ys))
-  sum-append f (x ∷ xs) ys = rw (sum-append f xs ys) (sym (add_assoc (f x) (sum_by f xs) (sum_by f ys)))
+  pub sum_append : (f : A → ℕ) (xs ys : List A) → sum_by f (xs ++ ys) ≡ sum_by f xs + sum_by f ys
+  sum_append f [] ys = sym (zero-add (sum_by f ys))
+  sum_append f (x ∷ xs) ys = rw (sum_append f xs ys) (sym (add_assoc (f x) (sum_by f xs) (sum_by f ys)))
 
   pub sum_ext : {f g : A → ℕ} → ((x : A) → f x ≡ g x) → (xs : List A) → sum_by f xs ≡ sum_by g xs
   sum_ext h [] = refl
@@ -27,15 +27,15 @@ module _ {A : Type 0} where
   sum_le h (x ∷ xs) = add-le-add (h x) (sum_le h xs)
 
   -- The sum over the first i elements goes on by element i, and is never above that over all.
-  pub sum-next : (f : A → ℕ) (xs : List A) (i : ℕ) (d : A) → i < length xs → sum_by f (take (i + 1) xs) ≡ sum_by f (take i xs) + f (get_or xs i d)
-  sum-next f xs i d h = rw (add-one, take-suc xs i d h, sum-append) (omega arith)
+  pub sum_next : (f : A → ℕ) (xs : List A) (i : ℕ) (d : A) → i < length xs → sum_by f (take (i + 1) xs) ≡ sum_by f (take i xs) + f (get_or xs i d)
+  sum_next f xs i d h = rw (add-one, take-suc xs i d h, sum_append) (omega arith)
 
-  pub sum-take : (f : A → ℕ) (i : ℕ) (xs : List A) → sum_by f (take i xs) ≤ sum_by f xs
-  sum-take f i xs = omega (arith, sum-append f (take i xs) (drop i xs), ap (sum_by f) (take-append-drop i xs))
+  pub sum_take : (f : A → ℕ) (i : ℕ) (xs : List A) → sum_by f (take i xs) ≤ sum_by f xs
+  sum_take f i xs = omega (arith, sum_append f (take i xs) (drop i xs), ap (sum_by f) (take-append-drop i xs))
 
-  pub sum-scale : (k : ℕ) (f : A → ℕ) (xs : List A) → sum_by (λ x. k * f x) xs ≡ k * sum_by f xs
-  sum-scale k f [] = sym (mul-zero k)
-  sum-scale k f (x ∷ xs) = rw (sum-scale k f xs) (sym (mul-add k (f x) (sum_by f xs)))
+  pub sum_scale : (k : ℕ) (f : A → ℕ) (xs : List A) → sum_by (λ x. k * f x) xs ≡ k * sum_by f xs
+  sum_scale k f [] = sym (mul-zero k)
+  sum_scale k f (x ∷ xs) = rw (sum_scale k f xs) (sym (mul-add k (f x) (sum_by f xs)))
 
   pub sum_add : (f g : A → ℕ) (xs : List A) → sum_by (λ x. f x + g x) xs ≡ sum_by f xs + sum_by g xs
   sum_add f g [] = refl
@@ -46,13 +46,13 @@ module _ {A : Type 0} where
   sum_zero (x ∷ xs) = omega (arith, sum_zero xs)
 
 module _ {A B : Type 0} where
-  pub sum-map : (f : B → ℕ) (g : A → B) (xs : List A) → sum_by f (map g xs) ≡ sum_by (λ x. f (g x)) xs
-  sum-map f g [] = refl
-  sum-map f g (x ∷ xs) = ap (f (g x) +◌) (sum-map f g xs)
+  pub sum_map : (f : B → ℕ) (g : A → B) (xs : List A) → sum_by f (map g xs) ≡ sum_by (λ x. f (g x)) xs
+  sum_map f g [] = refl
+  sum_map f g (x ∷ xs) = ap (f (g x) +◌) (sum_map f g xs)
 
-  pub sum-for_each : (f : B → ℕ) (g : A → List B) (xs : List A) → sum_by f (for_each xs g) ≡ sum_by (λ x. sum_by f (g x)) xs
-  sum-for_each f g [] = refl
-  sum-for_each f g (x ∷ xs) = sum-append f (g x) (for_each xs g) ∙ ap (sum_by f (g x) +◌) (sum-for_each f g xs)
+  pub sum_for_each : (f : B → ℕ) (g : A → List B) (xs : List A) → sum_by f (for_each xs g) ≡ sum_by (λ x. sum_by f (g x)) xs
+  sum_for_each f g [] = refl
+  sum_for_each f g (x ∷ xs) = sum_append f (g x) (for_each xs g) ∙ ap (sum_by f (g x) +◌) (sum_for_each f g xs)
 
   -- Two sums may change places.
   pub sum_swap : (f : A → B → ℕ) (xs : List A) (ys : List B) → sum_by (λ x. sum_by (f x) ys) xs ≡ sum_by (λ y. sum_by (λ x. f x y) xs) ys
@@ -60,9 +60,9 @@ module _ {A B : Type 0} where
   sum_swap f (x ∷ xs) ys = ap (sum_by (f x) ys +◌) (sum_swap f xs ys) ∙ sym (sum_add (f x) (λ y. sum_by (λ z. f z y) xs) ys)
 
 module _ {A : Type 0} where
-  pub sum-one_of_each : (f : List A → ℕ) (l : List A) (ls : List (List A)) → sum_by f (one_of_each (l ∷ ls)) ≡ sum_by (λ x. sum_by (λ t. f (x ∷ t)) (one_of_each ls)) l
-  sum-one_of_each f l ls =
-      sum-for_each f (λ x. map (x ∷◌) (one_of_each ls)) l ∙ sum_ext (λ x. sum-map f (x ∷◌) (one_of_each ls)) l
+  pub sum_one_of_each : (f : List A → ℕ) (l : List A) (ls : List (List A)) → sum_by f (one_of_each (l ∷ ls)) ≡ sum_by (λ x. sum_by (λ t. f (x ∷ t)) (one_of_each ls)) l
+  sum_one_of_each f l ls =
+      sum_for_each f (λ x. map (x ∷◌) (one_of_each ls)) l ∙ sum_ext (λ x. sum_map f (x ∷◌) (one_of_each ls)) l
 
 -- A sum with at most one term is 0, or that term.
 pub sum_out : (a : ℕ) (g : ℕ → ℕ) (k n : ℕ) → (a < k) ⊎ (k + n ≤ a) → sum_by (λ v. cond (eqb a v) (g v) 0) (count_from k n) ≡ 0
@@ -88,22 +88,22 @@ pub cond_mul : (b : Bool) (w : ℕ) → cond b w 0 ≡ w * cond b 1 0
 cond_mul true w = sym (mul-one w)
 cond_mul false w = sym (mul-zero w)
 
-pub length-count : (k n : ℕ) → length (count_from k n) ≡ n
-length-count k zero = refl
-length-count k (suc n) = ap suc (length-count (suc k) n)
+pub length_count : (k n : ℕ) → length (count_from k n) ≡ n
+length_count k zero = refl
+length_count k (suc n) = ap suc (length_count (suc k) n)
 
 -- The list of f of each number below n.
-pub length-below : {A : Type 0} (f : ℕ → A) (n : ℕ) → length (map f (count_from 0 n)) ≡ n
-length-below f n = length-map (count_from 0 n) f ∙ length-count 0 n
+pub length_below : {A : Type 0} (f : ℕ → A) (n : ℕ) → length (map f (count_from 0 n)) ≡ n
+length_below f n = length-map (count_from 0 n) f ∙ length_count 0 n
 
 map_shift : {A : Type 0} (f : ℕ → A) (k n : ℕ) → map f (count_from (suc k) n) ≡ map (λ j. f (suc j)) (count_from k n)
 map_shift f k zero = refl
 map_shift f k (suc n) = ap (λ xs. f (suc k) ∷ xs) (map_shift f (suc k) n)
 
 -- One number more.
-pub map-count : {A : Type 0} (f : ℕ → A) (k n j : ℕ) → k + n ≡ j → map f (count_from k (suc n)) ≡ map f (count_from k n) ++ (f j ∷ [])
-map-count f k zero j e = let e2 : k ≡ j = omega arith in ap (λ (i : ℕ). f i ∷ []) e2
-map-count f k (suc n) j e = ap (λ xs. f k ∷ xs) (map-count f (suc k) n j (omega arith))
+pub map_count : {A : Type 0} (f : ℕ → A) (k n j : ℕ) → k + n ≡ j → map f (count_from k (suc n)) ≡ map f (count_from k n) ++ (f j ∷ [])
+map_count f k zero j e = let e2 : k ≡ j = omega arith in ap (λ (i : ℕ). f i ∷ []) e2
+map_count f k (suc n) j e = ap (λ xs. f k ∷ xs) (map_count f (suc k) n j (omega arith))
 
 -- A list is the list of its elements by their places.
 pub map_places : {A : Type 0} (d : A) (xs : List A) → map (λ j. get_or xs j d) (count_from 0 (length xs)) ≡ xs
@@ -116,5 +116,5 @@ module _ {A B : Type 0} (f : A → List B) where
   for_each-append (x ∷ xs) ys = rw (for_each-append xs ys) (sym (append_assoc (f x) (for_each xs f) (for_each ys f)))
 
   -- The lists of one element more.
-  pub for_each-next : (xs : List A) (j : ℕ) (d : A) → j < length xs → for_each (take (j + 1) xs) f ≡ for_each (take j xs) f ++ f (get_or xs j d)
-  for_each-next xs j d h = rw (add-one, take-suc xs j d, for_each-append, append-nil)
+  pub for_each_next : (xs : List A) (j : ℕ) (d : A) → j < length xs → for_each (take (j + 1) xs) f ≡ for_each (take j xs) f ++ f (get_or xs j d)
+  for_each_next xs j d h = rw (add-one, take-suc xs j d, for_each-append, append-nil)

@@ -22,11 +22,11 @@ pub record Bounds {I : Type 0} (es : List Entry) (cs : List Component) (whole : 
   pub least : (D : Division cs) (i : I) → ShareAtLeast es cs D (demand_at i) (low i) whole
   pub greatest : (D : Division cs) (i : I) → ShareAtMost es cs D (demand_at i) (high i) whole
   -- one division meets the one at every demand, and one the other;
-  pub least-met : (D : Division cs) × ((i : I) → ShareIs es cs D (demand_at i) (low i) whole)
-  pub greatest-met : (D : Division cs) × ((i : I) → ShareIs es cs D (demand_at i) (high i) whole)
+  pub least_met : (D : Division cs) × ((i : I) → ShareIs es cs D (demand_at i) (low i) whole)
+  pub greatest_met : (D : Division cs) × ((i : I) → ShareIs es cs D (demand_at i) (high i) whole)
   -- so at any one demand no fraction a / b that bounds every division is better.
-  pub least-tight : (i : I) (a b : ℕ) → ((D : Division cs) → ShareAtLeast es cs D (demand_at i) a b) → a * whole ≤ low i * b
-  pub greatest-tight : (i : I) (a b : ℕ) → ((D : Division cs) → ShareAtMost es cs D (demand_at i) a b) → high i * b ≤ a * whole
+  pub least_tight : (i : I) (a b : ℕ) → ((D : Division cs) → ShareAtLeast es cs D (demand_at i) a b) → a * whole ≤ low i * b
+  pub greatest_tight : (i : I) (a b : ℕ) → ((D : Division cs) → ShareAtMost es cs D (demand_at i) a b) → high i * b ≤ a * whole
 
 -- Of two demands the greater never has the greater share.
 abbrev pub Antitone : {I : Type 0} → (I → ℕ) → (I → ℕ) → Type 0

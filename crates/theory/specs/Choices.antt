@@ -49,5 +49,5 @@ Within = Forall₂ Inside
 pub record Spans (es : List Entry) (ch : List Focal) : Type 0 where
   pub least : (v : List ℕ) → Within ch v → (outcome es ch).low ≤ Φ es v
   pub greatest : (v : List ℕ) → Within ch v → Φ es v ≤ (outcome es ch).high
-  pub least-met : (v : List ℕ) × Within ch v × (Φ es v ≡ (outcome es ch).low)
-  pub greatest-met : (v : List ℕ) × Within ch v × (Φ es v ≡ (outcome es ch).high)
+  pub least_met : (v : List ℕ) × Within ch v × (Φ es v ≡ (outcome es ch).low)
+  pub greatest_met : (v : List ℕ) × Within ch v × (Φ es v ≡ (outcome es ch).high)

@@ -39,7 +39,7 @@ weights = sum_by (λ f. f.weight)
 
 -- What number 7 leaves of an accepted sheet's intervals, and joins keep: low at most high, and no speed above 4,095;
 pub record InRange (f : Focal) : Type 0 where
-  pub low-high : f.low ≤ f.high
+  pub low_high : f.low ≤ f.high
   pub below : f.high ≤ top_speed
 
 -- and no weight 0.

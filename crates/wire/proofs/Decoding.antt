@@ -9,15 +9,15 @@ use lib.ListN.{length, get_or}
 use borrow.Author.Tests.{eq-eqb, ne_eqb, le-leb, lt-leb}
 use Rattle.theory.specs.Limits.{most_demands}
 use Rattle.numbers.specs.Numbers.{onto, number_at}
-use Rattle.numbers.proofs.Numbers.{number-next}
+use Rattle.numbers.proofs.Numbers.{number_next}
 use Rattle.wire.specs.Demands.{demand_bytes, demand_count, Lengths}
 
 pub two_bytes : (s : List ℕ) (a : ℕ) → a + 1 < length s → number_at s a 2 ≡ 256 * get_or s a 0 + get_or s (a + 1) 0
 unfolding onto
 two_bytes s a h =
-    let first : number_at s a 1 ≡ number_at s a 0 * 256 + get_or s (a + 0) 0 = number-next s a 0 (omega arith) in
+    let first : number_at s a 1 ≡ number_at s a 0 * 256 + get_or s (a + 0) 0 = number_next s a 0 (omega arith) in
     let here : get_or s (a + 0) 0 ≡ get_or s a 0 = ap (λ n. get_or s n 0) (add-zero a) in
-    omega (arith, number-next s a 1 h)
+    omega (arith, number_next s a 1 h)
 
 -- ---- how many demands so many bytes are
 
@@ -28,8 +28,8 @@ module _ (bytes : ℕ) where
   pub count_long : bytes % demand_bytes ≡ 0 → demand_bytes * most_demands < bytes → 0 ≡ demand_count bytes
   count_long e h = rw (eq-eqb (bytes % demand_bytes) 0 e, lt-leb bytes (demand_bytes * most_demands) h)
 
-  pub count-whole : bytes % demand_bytes ≡ 0 → bytes ≤ demand_bytes * most_demands → bytes / demand_bytes ≡ demand_count bytes
-  count-whole e h = rw (eq-eqb (bytes % demand_bytes) 0 e, le-leb bytes (demand_bytes * most_demands) h)
+  pub count_whole : bytes % demand_bytes ≡ 0 → bytes ≤ demand_bytes * most_demands → bytes / demand_bytes ≡ demand_count bytes
+  count_whole e h = rw (eq-eqb (bytes % demand_bytes) 0 e, le-leb bytes (demand_bytes * most_demands) h)
 
   -- The length is that of no demands, or of some.
   data Counted : Type 0 where
@@ -51,10 +51,10 @@ module _ (bytes : ℕ) where
     where
       go : Counted → (demand_count bytes ≤ most_demands) × (demand_bytes * demand_count bytes ≤ bytes)
       go (none e h) = (omega arith, omega arith)
-      go (some e h) = let q = count-whole e h in (omega arith, omega arith)
+      go (some e h) = let q = count_whole e h in (omega arith, omega arith)
 
 pub lengths : Lengths
-lengths = record { whole = λ n h. sym (count-whole (demand_bytes * n) (omega arith) (omega arith)) ∙ omega arith; other = λ b h. go b (counted b) h }
+lengths = record { whole = λ n h. sym (count_whole (demand_bytes * n) (omega arith) (omega arith)) ∙ omega arith; other = λ b h. go b (counted b) h }
   where
     go : (b : ℕ) → Counted b → ((n : ℕ) → n ≤ most_demands → b ≡ demand_bytes * n → ⊥) → demand_count b ≡ 0
     go b (none e k) h = sym e

@@ -38,13 +38,13 @@ pub record PlanFits (p : Plan) : Type 0 where
 
 -- ---- numbers
 
-number-back : (ns s : List ℕ) (i : ℕ) → Every Word ns → i < length ns → number_in (encode_numbers ns ++ s) i ≡ get_or ns i 0
+number_back : (ns s : List ℕ) (i : ℕ) → Every Word ns → i < length ns → number_in (encode_numbers ns ++ s) i ≡ get_or ns i 0
 unfolding big_endian
-number-back [] s i h l = absurd (omega arith)
-number-back (n ∷ ns) s zero (more h hs) l = read_back 2 n h
-number-back (n ∷ ns) s (suc i) (more h hs) l =
+number_back [] s i h l = absurd (omega arith)
+number_back (n ∷ ns) s zero (more h hs) l = read_back 2 n h
+number_back (n ∷ ns) s (suc i) (more h hs) l =
     let e : 2 * suc i ≡ suc (suc (2 * i)) = omega arith in
-    ap (λ k. number_at (encode_numbers (n ∷ ns) ++ s) k 2) e ∙ number-back ns s i hs (omega arith)
+    ap (λ k. number_at (encode_numbers (n ∷ ns) ++ s) k 2) e ∙ number_back ns s i hs (omega arith)
 
 -- The bytes of numbers ns, and any bytes behind them.
 module _ (ns s : List ℕ) (h : Every Word ns) where
@@ -52,18 +52,18 @@ module _ (ns s : List ℕ) (h : Every Word ns) where
   bytes = encode_numbers ns ++ s
 
   -- Where xs stand from number i on, they are read there.
-  place-back : (i j : ℕ) (xs ys : List ℕ) → drop i ns ≡ xs ++ ys → j < length xs → number_in bytes (i + j) ≡ get_or xs j 0
-  place-back i j xs ys e l =
+  place_back : (i j : ℕ) (xs ys : List ℕ) → drop i ns ≡ xs ++ ys → j < length xs → number_in bytes (i + j) ≡ get_or xs j 0
+  place_back i j xs ys e l =
       let b : i + j < length ns = omega (arith, length-drop i ns, ap length e, length-append xs ys) in
-      number-back ns s (i + j) h b ∙ sym (get_or-drop i ns j 0) ∙ ap (λ zs. get_or zs j 0) e ∙ get_or-append xs ys 0 j l
+      number_back ns s (i + j) h b ∙ sym (get_or-drop i ns j 0) ∙ ap (λ zs. get_or zs j 0) e ∙ get_or-append xs ys 0 j l
 
-  numbers-back : (i m : ℕ) (xs ys : List ℕ) → drop i ns ≡ xs ++ ys → length xs ≡ m → numbers_in bytes i m ≡ xs
-  numbers-back i m xs ys e l =
-      rw (← l) (map_below (λ j. number_in bytes (i + j)) (λ j. get_or xs j 0) 0 (length xs) (λ j p q. place-back i j xs ys e (omega arith)) ∙ map_places 0 xs)
+  numbers_back : (i m : ℕ) (xs ys : List ℕ) → drop i ns ≡ xs ++ ys → length xs ≡ m → numbers_in bytes i m ≡ xs
+  numbers_back i m xs ys e l =
+      rw (← l) (map_below (λ j. number_in bytes (i + j)) (λ j. get_or xs j 0) 0 (length xs) (λ j p q. place_back i j xs ys e (omega arith)) ∙ map_places 0 xs)
 
-  component-back : (i : ℕ) (c : Component) (ys : List ℕ) → ComponentFits c → drop i ns ≡ component_numbers_of c ++ ys → decode_component bytes i ≡ c
+  component_back : (i : ℕ) (c : Component) (ys : List ℕ) → ComponentFits c → drop i ns ≡ component_numbers_of c ++ ys → decode_component bytes i ≡ c
   unfolding decode_component
-  component-back i c ys f e =
+  component_back i c ys f e =
       let three : drop (i + 2) ns ≡ c.lows ++ ((c.highs ++ c.weights) ++ ys) =
       sym (drop-drop 2 i ns) ∙ (ap (drop 2) e ∙ append_assoc c.lows (c.highs ++ c.weights) ys) in
       let two : drop (i + 2 + most_held) ns ≡ c.highs ++ (c.weights ++ ys) =
@@ -73,60 +73,60 @@ module _ (ns s : List ℕ) (h : Every Word ns) where
       sym (drop-drop most_held (i + 2 + most_held) ns) ∙ (ap (drop most_held) two ∙ drop_at c.highs (c.weights ++ ys) most_held f.highs) in
       let sixteen : i + 2 + 2 * most_held ≡ i + 2 + most_held + most_held = omega arith in
       rw (
-        ap (number_in bytes) (sym (add-zero i)) ∙ place-back i 0 (component_numbers_of c) ys e (omega arith),
-        place-back i 1 (component_numbers_of c) ys e (omega arith),
-        numbers-back (i + 2) most_held c.lows ((c.highs ++ c.weights) ++ ys) three f.lows,
-        numbers-back (i + 2 + most_held) most_held c.highs (c.weights ++ ys) two f.highs,
-        ap (λ k. numbers_in bytes k most_held) sixteen ∙ numbers-back (i + 2 + most_held + most_held) most_held c.weights ys one f.weights,
+        ap (number_in bytes) (sym (add-zero i)) ∙ place_back i 0 (component_numbers_of c) ys e (omega arith),
+        place_back i 1 (component_numbers_of c) ys e (omega arith),
+        numbers_back (i + 2) most_held c.lows ((c.highs ++ c.weights) ++ ys) three f.lows,
+        numbers_back (i + 2 + most_held) most_held c.highs (c.weights ++ ys) two f.highs,
+        ap (λ k. numbers_in bytes k most_held) sixteen ∙ numbers_back (i + 2 + most_held + most_held) most_held c.weights ys one f.weights,
       )
 
 -- ---- the plan
 
-component-length : (c : Component) → ComponentFits c → length (component_numbers_of c) ≡ component_size
-component-length c f = omega (arith, length-append c.lows (c.highs ++ c.weights), length-append c.highs c.weights, f.lows, f.highs, f.weights)
+component_length : (c : Component) → ComponentFits c → length (component_numbers_of c) ≡ component_size
+component_length c f = omega (arith, length-append c.lows (c.highs ++ c.weights), length-append c.highs c.weights, f.lows, f.highs, f.weights)
 
 -- The numbers of component i stand behind those of the ones before it.
-component-place : (cs : List Component) → Every ComponentFits cs → (tail : List ℕ) (i : ℕ) → i < length cs
+component_place : (cs : List Component) → Every ComponentFits cs → (tail : List ℕ) (i : ℕ) → i < length cs
     → drop (component_size * i) (for_each cs component_numbers_of ++ tail)
     ≡ component_numbers_of (get_or cs i no_component) ++ (for_each (drop (suc i) cs) component_numbers_of ++ tail)
-component-place [] none tail i l = absurd (omega arith)
-component-place (c ∷ cs) (more f fs) tail zero l = append_assoc (component_numbers_of c) (for_each cs component_numbers_of) tail
-component-place (c ∷ cs) (more f fs) tail (suc i) l =
+component_place [] none tail i l = absurd (omega arith)
+component_place (c ∷ cs) (more f fs) tail zero l = append_assoc (component_numbers_of c) (for_each cs component_numbers_of) tail
+component_place (c ∷ cs) (more f fs) tail (suc i) l =
     let e : component_size * suc i ≡ component_size + component_size * i = omega arith in
     let rest : List ℕ = for_each cs component_numbers_of ++ tail in
     ap₂ drop e (append_assoc (component_numbers_of c) (for_each cs component_numbers_of) tail)
     ∙ (sym (drop-drop (component_size * i) component_size (component_numbers_of c ++ rest))
-    ∙ (ap (drop (component_size * i)) (drop_at (component_numbers_of c) rest component_size (component-length c f))
-    ∙ component-place cs fs tail i (omega arith)))
+    ∙ (ap (drop (component_size * i)) (drop_at (component_numbers_of c) rest component_size (component_length c f))
+    ∙ component_place cs fs tail i (omega arith)))
 
-components-length : (cs : List Component) → Every ComponentFits cs → length (for_each cs component_numbers_of) ≡ component_size * length cs
-components-length [] none = refl
-components-length (c ∷ cs) (more f fs) =
-    omega (arith, length-append (component_numbers_of c) (for_each cs component_numbers_of), component-length c f, components-length cs fs)
+components_length : (cs : List Component) → Every ComponentFits cs → length (for_each cs component_numbers_of) ≡ component_size * length cs
+components_length [] none = refl
+components_length (c ∷ cs) (more f fs) =
+    omega (arith, length-append (component_numbers_of c) (for_each cs component_numbers_of), component_length c f, components_length cs fs)
 
-components-short : {cs : List Component} → Every ComponentFits cs → Every Word (for_each cs component_numbers_of)
-components-short none = none
-components-short (more f fs) = every_append f.short (components-short fs)
+components_short : {cs : List Component} → Every ComponentFits cs → Every Word (for_each cs component_numbers_of)
+components_short none = none
+components_short (more f fs) = every_append f.short (components_short fs)
 
 pub plan_back : (p : Plan) (s : List ℕ) → PlanFits p → decode_plan (encode_plan p ++ s) ≡ p
 unfolding decode_plan encode_plan
 plan_back p s f =
     let ns : List ℕ = plan_numbers_of p in
-    let h : Every Word ns = more f.short.0 (every_append (components-short f.each) f.short.1) in
+    let h : Every Word ns = more f.short.0 (every_append (components_short f.each) f.short.1) in
     let at : (i : ℕ) → 0 ≤ i → i < 0 + most_components → decode_component (encode_numbers ns ++ s) (component_start i) ≡ get_or p.components i no_component =
     λ i z l.
     let b : i < length p.components = omega (arith, f.components) in
-    component-back ns s h (component_start i) (get_or p.components i no_component) (for_each (drop (suc i) p.components) component_numbers_of ++ p.entries)
-    (index_of_every no_component f.each i b) (sym (drop-drop (component_size * i) 1 ns) ∙ component-place p.components f.each p.entries i b) in
+    component_back ns s h (component_start i) (get_or p.components i no_component) (for_each (drop (suc i) p.components) component_numbers_of ++ p.entries)
+    (index_of_every no_component f.each i b) (sym (drop-drop (component_size * i) 1 ns) ∙ component_place p.components f.each p.entries i b) in
     let last : drop entries_start ns ≡ p.entries ++ [] =
     drop_at (for_each p.components component_numbers_of) p.entries (component_size * most_components)
-    (components-length p.components f.each ∙ ap (λ m. component_size * m) f.components)
+    (components_length p.components f.each ∙ ap (λ m. component_size * m) f.components)
     ∙ sym (append-nil p.entries) in
     rw (
-      number-back ns s 0 h (omega arith),
+      number_back ns s 0 h (omega arith),
       map_below (λ i. decode_component (encode_numbers ns ++ s) (component_start i)) (λ i. get_or p.components i no_component) 0 most_components at
           ∙ (ap (λ m. map (λ i. get_or p.components i no_component) (count_from 0 m)) (sym f.components) ∙ map_places no_component p.components),
-      numbers-back ns s h entries_start most_entries p.entries [] last f.entries,
+      numbers_back ns s h entries_start most_entries p.entries [] last f.entries,
     )
 
 length_encoded : (ns : List ℕ) → length (encode_numbers ns) ≡ number_bytes * length ns
@@ -140,7 +140,7 @@ plan_length p f =
     ∙ omega (
       arith,
       length-append (for_each p.components component_numbers_of) p.entries,
-      components-length p.components f.each,
+      components_length p.components f.each,
       f.components,
       f.entries,
     )

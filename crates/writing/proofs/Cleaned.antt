@@ -11,7 +11,7 @@ use Rattle.theory.specs.Focal.{Focal, focal_at}
 use Rattle.theory.specs.Limits.{most_held, most_components, most_entries, entry_count}
 use Rattle.theory.specs.Lists.{no_component}
 use Rattle.theory.specs.declared.Component.{Component}
-use Rattle.theory.proofs.Sums.{sum-map}
+use Rattle.theory.proofs.Sums.{sum_map}
 use Rattle.field.specs.Fields.{Field, bits}
 use Rattle.block.proofs.Rows.{row_used}
 use Rattle.block.proofs.Laws.{filled_used}
@@ -23,7 +23,7 @@ use Rattle.plan.specs.Plan.{component_at, components_of, codes_of, entry_of, cle
 use Rattle.plan.specs.Rules.{rule3, bad_count, rule4, bad_total, bad_alone, after, bad_interval, bad_intervals, bad_sum, flaws_in, flaw_tests, structure_tests, rules}
 use Rattle.plan.proofs.Tests.{every_failed, any_map, any_alike, map_below, within}
 use Rattle.writing.specs.Writing.{number_of, length_of, sheet_fields, written, written_of, bytes_by, bytes_after, IgnoresUnused}
-use Rattle.writing.proofs.Accepted.{number-accepts}
+use Rattle.writing.proofs.Accepted.{number_accepts}
 
 -- The fields of an interval.
 abbrev focal_fields : Focal → List Field
@@ -31,32 +31,32 @@ focal_fields f = bits speed_bits f.low ∷ bits speed_bits f.high ∷ bits weigh
 
 -- One component that is held.
 module _ (c : Component) (l : c.count ≤ most_held) where
-  focal-cleaned : (j : ℕ) → j < c.count → focal_at (cleaned c) j ≡ focal_at c j
+  focal_cleaned : (j : ℕ) → j < c.count → focal_at (cleaned c) j ≡ focal_at c j
   unfolding cleaned
-  focal-cleaned j h = filled_used (focal_at c) c.count c.count c.total j h l
+  focal_cleaned j h = filled_used (focal_at c) c.count c.count c.total j h l
 
-  intervals-cleaned : bad_intervals (cleaned c) ≡ bad_intervals c
+  intervals_cleaned : bad_intervals (cleaned c) ≡ bad_intervals c
   unfolding cleaned
-  intervals-cleaned =
+  intervals_cleaned =
       any_alike (bad_interval (cleaned c)) (bad_interval c) 0 c.count
-      (λ j a b. ap₂ (λ (f g : Focal). bad_alone f || ltb 0 j && not (after g f)) (focal-cleaned j (omega arith)) (focal-cleaned (j - 1) (omega arith)))
+      (λ j a b. ap₂ (λ (f g : Focal). bad_alone f || ltb 0 j && not (after g f)) (focal_cleaned j (omega arith)) (focal_cleaned (j - 1) (omega arith)))
 
-  sum-cleaned : bad_sum (cleaned c) ≡ bad_sum c
+  sum_cleaned : bad_sum (cleaned c) ≡ bad_sum c
   unfolding cleaned
-  sum-cleaned = rw (map_below (focal_at (cleaned c)) (focal_at c) 0 c.count (λ j a b. focal-cleaned j (omega arith)))
+  sum_cleaned = rw (map_below (focal_at (cleaned c)) (focal_at c) 0 c.count (λ j a b. focal_cleaned j (omega arith)))
 
-  total-cleaned : bad_total (cleaned c) ≡ bad_total c
+  total_cleaned : bad_total (cleaned c) ≡ bad_total c
   unfolding cleaned
-  total-cleaned = refl
+  total_cleaned = refl
 
-  first-cleaned : (n : ℕ) → n ≤ c.count → intervals_of (cleaned c) n ≡ intervals_of c n
+  first_cleaned : (n : ℕ) → n ≤ c.count → intervals_of (cleaned c) n ≡ intervals_of c n
   unfolding intervals_of
-  first-cleaned zero h = refl
-  first-cleaned (suc n) h = ap₂ (λ (fs : List Field) (f : Focal). fs ++ focal_fields f) (first-cleaned n (omega arith)) (focal-cleaned n h)
+  first_cleaned zero h = refl
+  first_cleaned (suc n) h = ap₂ (λ (fs : List Field) (f : Focal). fs ++ focal_fields f) (first_cleaned n (omega arith)) (focal_cleaned n h)
 
   fields_cleaned : fields_of (cleaned c) ≡ fields_of c
   unfolding fields_of cleaned
-  fields_cleaned = rw (first-cleaned c.count (omega arith))
+  fields_cleaned = rw (first_cleaned c.count (omega arith))
 
 -- Components that are held.
 abbrev AllHeld : List Component → Type 0
@@ -67,15 +67,15 @@ any_cleaned f h none = refl
 any_cleaned f h (more {x = c} l ls) = rw (h c l, any_cleaned f h ls)
 
 flaws_cleaned : {cs : List Component} → AllHeld cs → flaws_in (map cleaned cs) ≡ flaws_in cs
-flaws_cleaned h = rw (any_cleaned bad_total total-cleaned h, any_cleaned bad_intervals intervals-cleaned h, any_cleaned bad_sum sum-cleaned h)
+flaws_cleaned h = rw (any_cleaned bad_total total_cleaned h, any_cleaned bad_intervals intervals_cleaned h, any_cleaned bad_sum sum_cleaned h)
 
 blocks_cleaned : {cs : List Component} → AllHeld cs → for_each (map cleaned cs) fields_of ≡ for_each cs fields_of
 blocks_cleaned none = refl
 blocks_cleaned (more {x = c} l ls) = rw (fields_cleaned c l, blocks_cleaned ls)
 
-counts-cleaned : (cs : List Component) → rule4 (map cleaned cs) ≡ rule4 cs
+counts_cleaned : (cs : List Component) → rule4 (map cleaned cs) ≡ rule4 cs
 unfolding rule4 cleaned
-counts-cleaned cs = any_map bad_count cleaned cs
+counts_cleaned cs = any_map bad_count cleaned cs
 
 held : (p : Plan) → rule4 (components_of p) ≡ false → AllHeld (components_of p)
 unfolding rule4
@@ -83,13 +83,13 @@ held p e = every_failed bad_count (components_of p) (λ c h. (within 1 most_held
 
 -- A plan with up to six components.
 module _ (p : Plan) (n : p.count ≤ most_components) where
-  count-cleaned : (cleaned_plan p).count ≡ p.count
+  count_cleaned : (cleaned_plan p).count ≡ p.count
   unfolding cleaned_plan
-  count-cleaned = refl
+  count_cleaned = refl
 
-  components-cleaned : components_of (cleaned_plan p) ≡ map cleaned (components_of p)
+  components_cleaned : components_of (cleaned_plan p) ≡ map cleaned (components_of p)
   unfolding cleaned_plan
-  components-cleaned =
+  components_cleaned =
       map_below (component_at (cleaned_plan p)) (λ i. cleaned (component_at p i)) 0 p.count
       (λ i a b. row_used zero_component most_components no_component (λ j. cleaned (component_at p j)) p.count i (omega arith) n)
       ∙ sym (map-map cleaned (component_at p) (count_from 0 p.count))
@@ -104,37 +104,37 @@ module _ (p : Plan) (n : p.count ≤ most_components) where
       map_below (λ j. get_or (cleaned_plan p).entries j 0) (λ j. get_or p.entries j 0) 0 (entry_count p.count)
       (λ j a b. row_used 0 most_entries 0 (λ i. get_or p.entries i 0) (entry_count p.count) j (omega arith) (omega arith))
 
-  length-cleaned : length_of (cleaned_plan p) ≡ length_of p
+  length_cleaned : length_of (cleaned_plan p) ≡ length_of p
   unfolding length_of cleaned
-  length-cleaned = rw (components-cleaned, count-cleaned, sum-map (λ c. size_of c.count) cleaned (components_of p))
+  length_cleaned = rw (components_cleaned, count_cleaned, sum_map (λ c. size_of c.count) cleaned (components_of p))
 
-  rule4-cleaned : rule4 (components_of (cleaned_plan p)) ≡ rule4 (components_of p)
-  rule4-cleaned = rw components-cleaned (counts-cleaned (components_of p))
+  rule4_cleaned : rule4 (components_of (cleaned_plan p)) ≡ rule4 (components_of p)
+  rule4_cleaned = rw components_cleaned (counts_cleaned (components_of p))
 
   module _ (h : AllHeld (components_of p)) where
-    pub rules-cleaned : rules (cleaned_plan p) ≡ rules p
+    pub rules_cleaned : rules (cleaned_plan p) ≡ rules p
     unfolding cleaned_plan
-    rules-cleaned =
+    rules_cleaned =
         ap₂ (λ (f : Flaws) (codes : List ℕ). flaw_tests f ++ structure_tests p.count (map entry_of codes))
-        (ap flaws_in components-cleaned ∙ flaws_cleaned h) codes_cleaned
+        (ap flaws_in components_cleaned ∙ flaws_cleaned h) codes_cleaned
 
     sheet_cleaned : sheet_fields (cleaned_plan p) ≡ sheet_fields p
     unfolding sheet_fields
-    sheet_cleaned = rw (components-cleaned, blocks_cleaned h, codes_cleaned, length-cleaned, count-cleaned)
+    sheet_cleaned = rw (components_cleaned, blocks_cleaned h, codes_cleaned, length_cleaned, count_cleaned)
 
 -- The three ways that a plan goes: 3, 4, or the rest, where all that it says to use is there.
 module _ (p : Plan) (room : ℕ) where
-  number-cleaned : number_of (cleaned_plan p) room ≡ number_of p room
+  number_cleaned : number_of (cleaned_plan p) room ≡ number_of p room
   unfolding cleaned_plan
-  number-cleaned = three (rule3 p.count) refl
+  number_cleaned = three (rule3 p.count) refl
     where
       four : p.count ≤ most_components → (b : Bool) → rule4 (components_of p) ≡ b → number_of (cleaned_plan p) room ≡ number_of p room
-      four n true e = rw (rule4-cleaned p n, e)
+      four n true e = rw (rule4_cleaned p n, e)
       four n false e =
           ap₂
           (λ (ts : List Test) (len : ℕ). first_broken (test 3 (rule3 p.count) ∷ test 4 (rule4 (components_of (cleaned_plan p))) ∷ (ts ++ (test 15 (ltb room len) ∷ []))))
-          (rules-cleaned p n (held p e)) (length-cleaned p n)
-          ∙ rw (rule4-cleaned p n)
+          (rules_cleaned p n (held p e)) (length_cleaned p n)
+          ∙ rw (rule4_cleaned p n)
 
       three : (b : Bool) → rule3 p.count ≡ b → number_of (cleaned_plan p) room ≡ number_of p room
       three true e = rw e
@@ -143,13 +143,13 @@ module _ (p : Plan) (room : ℕ) where
   -- What is the same where the plan is accepted.
   module _ (e : number_of p room ≡ 0) where
     most : p.count ≤ most_components
-    most = (within 1 most_components p.count (number-accepts p room e).three).1
+    most = (within 1 most_components p.count (number_accepts p room e).three).1
 
     same_length : length_of (cleaned_plan p) ≡ length_of p
-    same_length = length-cleaned p most
+    same_length = length_cleaned p most
 
     same_fields : sheet_fields (cleaned_plan p) ≡ sheet_fields p
-    same_fields = sheet_cleaned p most (held p (number-accepts p room e).four)
+    same_fields = sheet_cleaned p most (held p (number_accepts p room e).four)
 
 -- What is answered and written depends on the length and the fields only where nothing is refused.
 written_same : (k a b : ℕ) → (k ≡ 0 → a ≡ b) → written k a ≡ written k b
@@ -165,6 +165,6 @@ unfolding written_of bytes_after
 ignores_unused p buffer =
     let room = length buffer in
     record {
-      answer = rw (number-cleaned p room) (written_same (number_of p room) _ _ (same_length p room));
-      bytes = rw (number-cleaned p room) (bytes_same (number_of p room) buffer _ _ (same_fields p room));
+      answer = rw (number_cleaned p room) (written_same (number_of p room) _ _ (same_length p room));
+      bytes = rw (number_cleaned p room) (bytes_same (number_of p room) buffer _ _ (same_fields p room));
     }

@@ -8,7 +8,7 @@ use Rattle.theory.specs.Sums.{sum_by, for_each, count_from}
 use Rattle.theory.specs.declared.Component.{Component}
 use Rattle.field.specs.Bits.{put_at}
 use Rattle.field.specs.Fields.{Field, bits, width_of, put_all}
-use Rattle.field.proofs.Fields.{width-append, put_all_append}
+use Rattle.field.proofs.Fields.{width_append, put_all_append}
 use Rattle.block.specs.Block.{size_of, fields_of}
 use Rattle.block.proofs.RoundTrip.{width_fields_of}
 use Rattle.plan.specs.declared.Plan.{Plan}
@@ -17,7 +17,7 @@ use Rattle.plan.specs.Plan.{component_at, components_of, codes_in, codes_of}
 use Rattle.plan.specs.Rules.{Sized}
 use Rattle.writing.specs.Writing.{end_of, length_of, head_fields, block_fields, structure_fields, sheet_fields}
 use Rattle.plan.proofs.Loops.{from, from_zero, from_next, from_end}
-use Rattle.theory.proofs.Sums.{length-count}
+use Rattle.theory.proofs.Sums.{length_count}
 
 -- The bytes and the fields of the blocks from i on.
 module _ (p : Plan) where
@@ -33,8 +33,8 @@ module _ (p : Plan) where
   pub bytes_next : (i : ℕ) → i < p.count → bytes_left i ≡ size_of (component_at p i).count + bytes_left (i + 1)
   bytes_next i h = rw (from_next i p.count h)
 
-  pub bytes-end : (i : ℕ) → p.count ≤ i → bytes_left i ≡ 0
-  bytes-end i h = rw (from_end i p.count h)
+  pub bytes_end : (i : ℕ) → p.count ≤ i → bytes_left i ≡ 0
+  bytes_end i h = rw (from_end i p.count h)
 
   pub fields_start : fields_left 0 ≡ block_fields p
   fields_start = rw (from_zero p.count)
@@ -52,11 +52,11 @@ module _ (p : Plan) where
   fields_end s a i h = rw (from_end i p.count h)
 
   -- A block has 36 bytes at most, and so the blocks of a sheet end by byte 218.
-  pub end-most : Sized p → end_of p ≤ 218
-  end-most z = omega (arith, sums_most 0 p.count (λ i h. size-most (component_at p i).count (z.held i (omega arith))), z.counted.most)
+  pub end_most : Sized p → end_of p ≤ 218
+  end_most z = omega (arith, sums_most 0 p.count (λ i h. size_most (component_at p i).count (z.held i (omega arith))), z.counted.most)
     where
-      size-most : (k : ℕ) → k ≤ 8 → size_of k ≤ 36
-      size-most k h = omega arith
+      size_most : (k : ℕ) → k ≤ 8 → size_of k ≤ 36
+      size_most k h = omega arith
 
       sums_most : (k n : ℕ) → ((i : ℕ) → i < k + n → size_of (component_at p i).count ≤ 36) → sum_by (λ c. size_of c.count) (map (component_at p) (count_from k n)) ≤ 36 * n
       sums_most k zero h = omega arith
@@ -71,7 +71,7 @@ module _ (p : Plan) where
 
   pub sizes : Sized p → Sizes
   unfolding length_of
-  sizes z = record { least = z.counted.least; most = z.counted.most; sum = refl; end = end-most z }
+  sizes z = record { least = z.counted.least; most = z.counted.most; sum = refl; end = end_most z }
 
 -- The codes from place j on, of m.
 abbrev pub codes_left : List ℕ → ℕ → ℕ → List Field
@@ -96,7 +96,7 @@ codes_end es s a j m h = rw (from_end j m h)
 pub width_blocks : (cs : List Component) → width_of (for_each cs fields_of) ≡ 8 * sum_by (λ c. size_of c.count) cs
 unfolding width_of
 width_blocks [] = refl
-width_blocks (c ∷ cs) = rw (width-append (fields_of c), width_fields_of c, width_blocks cs) (omega arith)
+width_blocks (c ∷ cs) = rw (width_append (fields_of c), width_fields_of c, width_blocks cs) (omega arith)
 
 pub width_codes : (l : List ℕ) → width_of (map (bits 4) l) ≡ 4 * length l
 unfolding width_of
@@ -104,7 +104,7 @@ width_codes [] = refl
 width_codes (x ∷ l) = rw (width_codes l) (omega arith)
 
 pub width_of_codes : (p : Plan) → width_of (map (bits 4) (codes_of p)) ≡ 4 * entry_count p.count
-width_of_codes p = rw (width_codes (codes_of p)) (simp (length-map, length-count))
+width_of_codes p = rw (width_codes (codes_of p)) (simp (length-map, length_count))
 
 -- The parts of a sheet, put in one after the other.
 pub parts_put : (p : Plan) (s x y z w : List ℕ) (a : ℕ) → a ≡ 8 * end_of p → x ≡ put_all s 0 (head_fields p.count (length_of p)) → y ≡ put_all x 16 (block_fields p) → z ≡ put_all y a (map (bits 4) (codes_of p))

@@ -12,7 +12,7 @@ use Rattle.theory.specs.Limits.{most_held, most_components, most_entries, entry_
 use Rattle.theory.specs.declared.Component.{Component}
 use Rattle.field.specs.Bits.{field_at}
 use Rattle.field.specs.Fields.{bits, width_of, Holds}
-use Rattle.field.proofs.Fields.{holds-append, holds_undrop}
+use Rattle.field.proofs.Fields.{holds_append, holds_undrop}
 use Rattle.block.proofs.Rows.{row_used}
 use Rattle.block.specs.Block.{count_in, component_in, component_of, fields_of}
 use Rattle.block.proofs.Laws.{uncut}
@@ -25,7 +25,7 @@ use Rattle.reading.specs.Reading.{component_count, start_of, block_at, structure
 use Rattle.reading.proofs.SheetLayout.{component_is}
 use Rattle.reading.proofs.Decided.{Sound}
 use Rattle.writing.specs.Writing.{end_of, length_of, block_fields, structure_fields, sheet_fields}
-use Rattle.writing.proofs.Sizes.{bytes_left, fields_left, bytes_start, bytes_next, bytes-end, fields_start, width_blocks, width_of_codes}
+use Rattle.writing.proofs.Sizes.{bytes_left, fields_left, bytes_start, bytes_next, bytes_end, fields_start, width_blocks, width_of_codes}
 
 -- Codes in a row.
 codes_hold : (s : List ℕ) (g : ℕ → ℕ) (a k m : ℕ) → ((j : ℕ) → j < m → field_at s (a + 4 * j) 4 ≡ g (k + j)) → Holds s a (map (bits 4) (map g (count_from k m)))
@@ -52,9 +52,9 @@ module _ (s : List ℕ) (a : Sound s) where
   unfolding plan_in
   plan_count = refl
 
-  pub counts-kept : rule4 (components_of (plan_in s)) ≡ false
+  pub counts_kept : rule4 (components_of (plan_in s)) ≡ false
   unfolding rule4
-  counts-kept =
+  counts_kept =
       any_map bad_count (component_at (plan_in s)) (count_from 0 (plan_in s).count)
       ∙ none_below (λ i. bad_count (component_at (plan_in s) i)) 0 (plan_in s).count
       (λ i x y.
@@ -72,7 +72,7 @@ module _ (s : List ℕ) (a : Sound s) where
       rw (← count_at i l, ← add-one i) (omega (arith, start_at i (omega arith), bytes_next (plan_in s) i (omega (arith, plan_count))))
 
   end_at : start_of s (component_count s) ≡ end_of (plan_in s)
-  end_at = omega (arith, start_at (component_count s) (omega arith), bytes-end (plan_in s) (component_count s) (omega (arith, plan_count)))
+  end_at = omega (arith, start_at (component_count s) (omega arith), bytes_end (plan_in s) (component_count s) (omega (arith, plan_count)))
 
   pub length_at : length_of (plan_in s) ≡ length s
   unfolding length_of
@@ -90,7 +90,7 @@ module _ (s : List ℕ) (a : Sound s) where
       let f : Holds s (8 * start_of s i) (fields_of c) = rw add-zero at (holds_undrop s (start_of s i) 0 (fields_of c) h) in
       let w : 8 * start_of s (i + 1) ≡ 8 * start_of s i + width_of (fields_of c) = rw (add-one i, width_fields_of c, count_at i l) (omega arith) in
       rw (from_next i p.count (omega (arith, plan_count)))
-      (holds-append s (8 * start_of s i) (fields_of c) (fields_left p (i + 1)) f (rw w at (blocks_at d (i + 1) (omega arith))))
+      (holds_append s (8 * start_of s i) (fields_of c) (fields_left p (i + 1)) f (rw w at (blocks_at d (i + 1) (omega arith))))
 
   codes_at : Holds s (8 * end_of (plan_in s)) (map (bits 4) (codes_of (plan_in s)))
   unfolding plan_in
@@ -110,8 +110,8 @@ module _ (s : List ℕ) (a : Sound s) where
           sym plan_count,
           (
             a.said ∙ sym length_at,
-            holds-append s 16 (block_fields p) (structure_fields p) b
-                (rw w (holds-append s (8 * end_of p) (map (bits 4) (codes_of p)) (bits 4 0 ∷ []) codes_at (l, tt))),
+            holds_append s 16 (block_fields p) (structure_fields p) b
+                (rw w (holds_append s (8 * end_of p) (map (bits 4) (codes_of p)) (bits 4 0 ∷ []) codes_at (l, tt))),
           ),
         ),
       )

@@ -7,14 +7,14 @@ use Rattle.bench_table.specs.declared.Sheet.{Sheet}
 use Rattle.bench_table.specs.Rows.{longest, chain, sheet_of}
 use Rattle.bench_table.proofs.written.Goals as goal
 
-sheet-is : (p : Plan) {w : Written} {bytes : List ℕ} → w ≡ written_of p longest → bytes ≡ bytes_after p (replicate longest 0)
+sheet_is : (p : Plan) {w : Written} {bytes : List ℕ} → w ≡ written_of p longest → bytes ≡ bytes_after p (replicate longest 0)
     → ◌≡◌ {A = Sheet} (record { bytes = bytes; length = w.length }) (sheet_of p)
 unfolding sheet_of
-sheet-is p e f = rw (e, f)
+sheet_is p e f = rw (e, f)
 
 pub returns : goal.returns
 unfolding chain
 returns c =
     let a = c.args in
     let e = c.write_sheet-w.ensures in
-    sheet-is (chain a.n a.x a.y a.z a.join) e.value e.out_after
+    sheet_is (chain a.n a.x a.y a.z a.join) e.value e.out_after

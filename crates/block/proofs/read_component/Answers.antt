@@ -16,8 +16,8 @@ use Rattle.block.proofs.read_component.Invariants.{so_far}
 use Rattle.block.proofs.read_component.Goals as goal
 
 -- One interval more.
-abbrev with-interval : Component → ℕ → Triple → Component
-with-interval c i t =
+abbrev with_interval : Component → ℕ → Triple → Component
+with_interval c i t =
     record {
       lows = set c.lows i t.first;
       highs = set c.highs i t.second;
@@ -27,7 +27,7 @@ with-interval c i t =
     }
 
 turn : (s : List ℕ) (i p : ℕ) (c : Component) (t : Triple) → c ≡ so_far s i → p ≡ place_of i → t ≡ three_at s p speed_bits speed_bits weight_bits
-    → with-interval c i t ≡ so_far s (i + 1)
+    → with_interval c i t ≡ so_far s (i + 1)
 unfolding row
 turn s i p c t e q f = rw (e, f, q, add-one)
 

@@ -13,7 +13,7 @@ use Rattle.block.proofs.read_interval.Goals as goal
 record Parts (s : List ℕ) (p first second third : ℕ) : Type 0 where
   first_is : first ≡ field_at s p speed_bits
   second_is : second ≡ field_at s (p + speed_bits) speed_bits
-  third-is : third ≡ field_at s (p + speed_bits + speed_bits) weight_bits
+  third_is : third ≡ field_at s (p + speed_bits + speed_bits) weight_bits
 
 parts : (s : List ℕ) (p w x y z : ℕ) → w ≡ window_at s p interval_bits → x ≡ 2 ^ speed_bits → y ≡ 2 ^ weight_bits → z ≡ 2 ^ (speed_bits + weight_bits)
     → Parts s p (w / z % x) (w / y % x) (w % y)
@@ -23,7 +23,7 @@ parts s p w x y z e ex ey ez =
     record {
       first_is = rw (e, ex, ez) (rw zero at (window_field s p 0 speed_bits (speed_bits + weight_bits)));
       second_is = rw (e, ex, ey) (window_field s p speed_bits speed_bits weight_bits);
-      third-is = rw (e, ey) (rw third at (window_last s p (speed_bits + speed_bits) weight_bits));
+      third_is = rw (e, ey) (rw third at (window_last s p (speed_bits + speed_bits) weight_bits));
     }
 
 -- A field fits 32 bits.
@@ -43,9 +43,9 @@ overflow_cast-result-2 c =
 pub overflow_cast-result-3 : goal.overflow_cast-result-3
 overflow_cast-result-3 c =
     let here = parts _ _ _ _ _ _ c.window-bits.ensures c.pow2-speed_size.ensures c.pow2-weight_size.ensures c.pow2-high_weight_size.ensures in
-    record { fits = fits _ _ weight_bits _ (lit≤ tt) here.third-is }
+    record { fits = fits _ _ weight_bits _ (lit≤ tt) here.third_is }
 
 pub returns : goal.returns
 returns c =
     let here = parts _ _ _ _ _ _ c.window-bits.ensures c.pow2-speed_size.ensures c.pow2-weight_size.ensures c.pow2-high_weight_size.ensures in
-    rw (here.first_is, here.second_is, here.third-is)
+    rw (here.first_is, here.second_is, here.third_is)

@@ -7,14 +7,14 @@ use Rattle.field.specs.Fields.{bits, put_all}
 use Rattle.field.proofs.Fields.{put_all_append}
 use Rattle.theory.specs.declared.Component.{Component}
 use Rattle.block.specs.Block.{count_bits, zero_bits, total_bits, place_of, padding_of, intervals_of, fields_of}
-use Rattle.block.proofs.RoundTrip.{width-intervals}
+use Rattle.block.proofs.RoundTrip.{width_intervals}
 use Rattle.block.proofs.write_block.Goals as goal
 
 all : (s x y z : List ℕ) (c : Component) (end width : ℕ) → end ≡ place_of c.count → width ≡ padding_of c.count
     → x ≡ put_all s 0 (bits count_bits c.count ∷ bits zero_bits 0 ∷ bits total_bits c.total ∷ []) → y ≡ put_all x (place_of 0) (intervals_of c c.count)
     → z ≡ put_at y end width 0 → z ≡ put_all s 0 (fields_of c)
 unfolding put_all fields_of
-all s x y z c end width e f p q r = rw (r, f, e, q, p, put_all_append _ (place_of 0) (intervals_of c c.count), width-intervals c c.count)
+all s x y z c end width e f p q r = rw (r, f, e, q, p, put_all_append _ (place_of 0) (intervals_of c c.count), width_intervals c c.count)
 
 pub returns : goal.returns
 returns c =

@@ -2,7 +2,7 @@
 use Rattle.std.proofs.Common.{ℕ, List, sym, ap, ◌∙◌, ◌++◌, drop}
 use Rattle.evaluate.specs.declared.Answer.{Answer}
 use Rattle.drive.specs.Call.{answer_bytes, encode_answer}
-use Rattle.drive.proofs.Call.{nothing, too_short, long-enough}
+use Rattle.drive.proofs.Call.{nothing, too_short, long_enough}
 use Rattle.drive.proofs.drive_bounds.Goals as goal
 
 pub returns-then-answer-lt-ANSWER_BYTES : goal.returns-then-answer-lt-ANSWER_BYTES
@@ -18,7 +18,7 @@ returns-then-answer-lt-ANSWER_BYTES c =
 pub returns : goal.returns
 returns c =
     let a = c.args in
-    let way = long-enough a.sheet.now a.demand a.allowance a.list.now a.answer.now c.if-answer-lt-ANSWER_BYTES.false in
+    let way = long_enough a.sheet.now a.demand a.allowance a.list.now a.answer.now c.if-answer-lt-ANSWER_BYTES.false in
     record {
       value = ap (λ (x : Answer). x.number) c.bounds-a-2.ensures.value ∙ sym way.0;
       list_after = c.bounds-a-2.ensures.store_after ∙ sym way.1;

@@ -10,7 +10,7 @@ use Rattle.wire.specs.Demands.{demand_count, demand_at, demands_in, decode_deman
 use Rattle.wire.proofs.Decoding.{count_fits}
 use Rattle.drive.specs.Set.{set_answer_bytes, encode_set_answer}
 use Rattle.drive.proofs.Call.{nothing}
-use Rattle.drive.proofs.Set.{too_short, long-enough}
+use Rattle.drive.proofs.Set.{too_short, long_enough}
 use Rattle.drive.proofs.drive_set.Goals as goal
 
 -- The demands as the call passes them on: no more than the sixteen places.
@@ -45,7 +45,7 @@ returns-then-answer-lt-SET_ANSWER_BYTES c =
 pub returns : goal.returns
 returns c =
     let a = c.args in
-    let way = long-enough a.sheet.now a.demands.now a.allowance a.list.now a.shares.now a.answer.now c.if-answer-lt-SET_ANSWER_BYTES.false in
+    let way = long_enough a.sheet.now a.demands.now a.allowance a.list.now a.shares.now a.answer.now c.if-answer-lt-SET_ANSWER_BYTES.false in
     let is = asked a.demands.now c.decode_demands-d.result c.decode_demands-d.ensures in
     let called = c.set-r-2.ensures.value
     ∙ ap (λ (ds : List ℕ). set_answer a.sheet.now ds a.allowance (length a.list.now) (length a.shares.now)) is in

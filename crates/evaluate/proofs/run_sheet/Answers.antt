@@ -12,7 +12,7 @@ use Rattle.evaluate.specs.SheetRun.{number_then, refused_run, sheet_run, store_t
 use Rattle.evaluate.specs.Store.{is_late}
 use Rattle.evaluate.specs.declared.SheetRun.{SheetRun}
 use Rattle.evaluate.proofs.Numbers.{tested_is, number_passed}
-use Rattle.evaluate.proofs.Finish.{tested-call, ready, Finished, finish}
+use Rattle.evaluate.proofs.Finish.{tested_call, ready, Finished, finish}
 use Rattle.evaluate.proofs.run_sheet.Goals as goal
 
 -- What the tests found, and the number that the call's own has with it.
@@ -25,16 +25,16 @@ module _ (sheet : List ℕ) (own allowance : ℕ) (store : List ℕ) {t : Readin
   plan_is = ap (λ (r : Reading). r.plan) (found ∙ tested_is sheet (length store))
 
   -- Refused by a test.
-  refused-value : is_late own ≡ false → (n ≡ 0 → ⊥) → {r : SheetRun} → r ≡ refused_run n → r ≡ sheet_run sheet (length store) own allowance
-  refused-value h z e = e ∙ (tested-call sheet own allowance store h n (sym number_is) z).0
+  refused_value : is_late own ≡ false → (n ≡ 0 → ⊥) → {r : SheetRun} → r ≡ refused_run n → r ≡ sheet_run sheet (length store) own allowance
+  refused_value h z e = e ∙ (tested_call sheet own allowance store h n (sym number_is) z).0
 
-  refused-store : is_late own ≡ false → (n ≡ 0 → ⊥) → store ≡ store_then sheet own allowance store
-  refused-store h z = (tested-call sheet own allowance store h n (sym number_is) z).1
+  refused_store : is_late own ≡ false → (n ≡ 0 → ⊥) → store ≡ store_then sheet own allowance store
+  refused_store h z = (tested_call sheet own allowance store h n (sym number_is) z).1
 
   -- Past the tests.
   module _ (z : n ≡ 0) where
-    ready-plan : Runnable t.plan store
-    ready-plan = subst (λ (q : Plan). Runnable q store) (sym plan_is) (ready sheet store (number_passed sheet (length store) own (sym number_is ∙ z)))
+    ready_plan : Runnable t.plan store
+    ready_plan = subst (λ (q : Plan). Runnable q store) (sym plan_is) (ready sheet store (number_passed sheet (length store) own (sym number_is ∙ z)))
 
     total-is : {u : ℕ} → u ≡ total (components_of t.plan) → u ≡ total (components_of (plan_of sheet))
     total-is e = e ∙ ap (λ (q : Plan). total (components_of q)) plan_is
@@ -49,19 +49,19 @@ module _ (sheet : List ℕ) (own allowance : ℕ) (store : List ℕ) {t : Readin
 pub returns-then-number-ne0-clause-value : goal.returns-then-number-ne0-clause-value
 returns-then-number-ne0-clause-value c =
     let a = c.args in
-    refused-value a.sheet.now a.own a.allowance a.store.now c.tested-t.ensures c.first-number.ensures c.requires c.if-number-ne0.true c.refuse.ensures
+    refused_value a.sheet.now a.own a.allowance a.store.now c.tested-t.ensures c.first-number.ensures c.requires c.if-number-ne0.true c.refuse.ensures
 
 pub returns-then-number-ne0-clause-store_after : goal.returns-then-number-ne0-clause-store_after
 returns-then-number-ne0-clause-store_after c =
-    let a = c.args in refused-store a.sheet.now a.own a.allowance a.store.now c.tested-t.ensures c.first-number.ensures c.requires c.if-number-ne0.true
+    let a = c.args in refused_store a.sheet.now a.own a.allowance a.store.now c.tested-t.ensures c.first-number.ensures c.requires c.if-number-ne0.true
 
 pub total_of-u-requires : goal.total_of-u-requires
 total_of-u-requires c =
-    let a = c.args in (ready-plan a.sheet.now a.own a.allowance a.store.now c.tested-t.ensures c.first-number.ensures c.if-number-ne0.false).valid
+    let a = c.args in (ready_plan a.sheet.now a.own a.allowance a.store.now c.tested-t.ensures c.first-number.ensures c.if-number-ne0.false).valid
 
 pub run_plan-ran-requires : goal.run_plan-ran-requires
 run_plan-ran-requires c =
-    let a = c.args in ready-plan a.sheet.now a.own a.allowance a.store.now c.tested-t.ensures c.first-number.ensures c.if-number-ne0.false
+    let a = c.args in ready_plan a.sheet.now a.own a.allowance a.store.now c.tested-t.ensures c.first-number.ensures c.if-number-ne0.false
 
 pub returns-then-ran-ne0-clause-value : goal.returns-then-ran-ne0-clause-value
 returns-then-ran-ne0-clause-value c =

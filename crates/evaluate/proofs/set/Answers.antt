@@ -10,8 +10,8 @@ use Rattle.evaluate.specs.declared.SheetRun.{SheetRun}
 use Rattle.evaluate.specs.Answer.{sheet_outcomes}
 use Rattle.evaluate.specs.SheetRun.{sheet_run, store_then, sheet_run_of, ending_at, store_at}
 use Rattle.evaluate.specs.Set.{set_tests, shares_by, set_answer, set_store_after, shares_after}
-use Rattle.evaluate.proofs.Numbers.{number_then_is, ended, set-answer_is, set_store_is, shares_is}
-use Rattle.evaluate.proofs.Finish.{number, end, PastRun, past_run, shares-refused, shares-asked}
+use Rattle.evaluate.proofs.Numbers.{number_then_is, ended, set_answer_is, set_store_is, shares_is}
+use Rattle.evaluate.proofs.Finish.{number, end, PastRun, past_run, shares_refused, shares_asked}
 use Rattle.evaluate.proofs.set.Goals as goal
 
 -- Past the run.
@@ -33,7 +33,7 @@ module _ (s demands : List ℕ) (allowance : ℕ) (store shares : List ℕ) {n :
   answer_is : r ≡ set_answer s demands allowance (length store) (length shares)
   answer_is =
       past.ran
-      ∙ (ap (λ (n : ℕ). sheet_run_of (ending_at n s allowance) s) number_is ∙ sym (set-answer_is s demands allowance (length store) (length shares)))
+      ∙ (ap (λ (n : ℕ). sheet_run_of (ending_at n s allowance) s) number_is ∙ sym (set_answer_is s demands allowance (length store) (length shares)))
 
   store_is : after ≡ set_store_after s demands allowance store (length shares)
   store_is = past.stored ∙ (ap (λ (n : ℕ). store_at n s allowance store) number_is ∙ sym (set_store_is s demands allowance store (length shares)))
@@ -44,7 +44,7 @@ module _ (s demands : List ℕ) (allowance : ℕ) (store shares : List ℕ) {n :
       ∙ sym (shares_is s demands allowance (length store) shares)
 
   kept : (r.number ≡ 0 → ⊥) → shares ≡ shares_after s demands allowance (length store) shares
-  kept h = shares-refused s demands shares ending past.ran h ∙ shares_are
+  kept h = shares_refused s demands shares ending past.ran h ∙ shares_are
 
   readable : Readable after r.intervals
   readable = past.list.readable
@@ -56,7 +56,7 @@ module _ (s demands : List ℕ) (allowance : ℕ) (store shares : List ℕ) {n :
     written w =
         w
         ∙ (ap (λ (l : List Focal). encode_set demands l ++ drop (shares_bytes * length demands) shares) past.list.list_is
-        ∙ (shares-asked s demands shares (ended (number s own allowance store) s allowance) past.ran z ∙ shares_are))
+        ∙ (shares_asked s demands shares (ended (number s own allowance store) s allowance) past.ran z ∙ shares_are))
 
 pub returns-then-a-ne0-clause-value : goal.returns-then-a-ne0-clause-value
 returns-then-a-ne0-clause-value c =

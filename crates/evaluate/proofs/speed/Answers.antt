@@ -15,14 +15,14 @@ use Rattle.evaluate.specs.Answer.{components, structure, sheet_list, answer_of}
 use Rattle.evaluate.specs.SheetRun.{sheet_run, store_then, sheet_run_of, answer_from, ending_at, store_at}
 use Rattle.evaluate.specs.Speed.{speed_by, speed_answer_of, speed_answer, speed_store_after}
 use Rattle.evaluate.proofs.Numbers.{number_then_is, speed_answer_is, speed_store_is}
-use Rattle.evaluate.proofs.Finish.{end, asked_list, PastRun, past_run, target_asked, answer-asked}
+use Rattle.evaluate.proofs.Finish.{end, asked_list, PastRun, past_run, target_asked, answer_asked}
 use Rattle.evaluate.proofs.speed.Goals as goal
 
 -- The speed, from what tests and run answered and the list.
-speed-asked : (s : List ℕ) (target : ℕ) (v : Evaluation Tree) {r : SheetRun} → r ≡ sheet_run_of v s
+speed_asked : (s : List ℕ) (target : ℕ) (v : Evaluation Tree) {r : SheetRun} → r ≡ sheet_run_of v s
     → speed_for target r.total (asked_list v s) ≡ speed_by v target (total (components s)) (sheet_list s)
-speed-asked s target (refused k) e = refl
-speed-asked s target (completed stack pairs) e = ap (λ (y : SheetRun). speed_for target y.total (sheet_list s)) e
+speed_asked s target (refused k) e = refl
+speed_asked s target (completed stack pairs) e = ap (λ (y : SheetRun). speed_for target y.total (sheet_list s)) e
 
 -- Past the run.
 module _ (s : List ℕ) (target allowance : ℕ) (store : List ℕ) {n : ℕ} (own-is : n ≡ first_broken (target_tests target)) {r : SheetRun} {after : List ℕ}
@@ -51,8 +51,8 @@ module _ (s : List ℕ) (target allowance : ℕ) (store : List ℕ) {n : ℕ} (o
   answer-is : {v : ℕ} {b : Shares} {a : Answer} → v ≡ speed_for target r.total (records r.intervals after) → b ≡ shares_of v (records r.intervals after) → a ≡ answer_from r b
       → record { answer = a; speed = v } ≡ speed_answer s target allowance (length store)
   answer-is {v = v} e f g =
-      let speed = e ∙ (ap (speed_for target r.total) past.list.list_is ∙ speed-asked s target ending past.ran) in
-      let other = g ∙ answer-asked s v ending past.ran (f ∙ ap (shares_of v) past.list.list_is) in
+      let speed = e ∙ (ap (speed_for target r.total) past.list.list_is ∙ speed_asked s target ending past.ran) in
+      let other = g ∙ answer_asked s v ending past.ran (f ∙ ap (shares_of v) past.list.list_is) in
       (λ i. record { answer = other i; speed = v })
       ∙ (ap (λ (w : ℕ). record { answer = answer_of ending (structure s) (components s) w; speed = w }) speed
       ∙ (ap (λ (n : ℕ). speed_answer_of (ending_at n s allowance) (structure s) (components s) target) (number_then_is s (length store) (target_tests target))

@@ -3,7 +3,7 @@ use Rattle.std.proofs.Common.{◌≡◌, sym, ap, ◌∙◌, arith}
 use Rattle.plan.specs.declared.Plan.{Plan}
 use Rattle.reading.specs.declared.Reading.{Reading}
 use Rattle.reading.specs.Reading.{read_of}
-use Rattle.evaluate.proofs.Numbers.{tested_unread, tested-short, tested-kept}
+use Rattle.evaluate.proofs.Numbers.{tested_unread, tested_short, tested_kept}
 use Rattle.evaluate.proofs.tested.Goals as goal
 
 pub returns-then-r-ne0 : goal.returns-then-r-ne0
@@ -16,9 +16,9 @@ returns-then-room-store_for c =
     let n : c.read_sheet-r.result.number ≡ (read_of c.args.sheet.now).number = ap (λ (r : Reading). r.number) c.read_sheet-r.ensures in
     let p : c.read_sheet-r.result.plan ≡ (read_of c.args.sheet.now).plan = ap (λ (r : Reading). r.plan) c.read_sheet-r.ensures in
     ap (λ (p : Plan). record { number = 12; plan = p }) p
-    ∙ tested-short c.args.sheet.now _ (sym n ∙ c.if-r-ne0.false) (omega (arith, c.store_for.ensures))
+    ∙ tested_short c.args.sheet.now _ (sym n ∙ c.if-r-ne0.false) (omega (arith, c.store_for.ensures))
 
 pub returns : goal.returns
 returns c =
     let n : c.read_sheet-r.result.number ≡ (read_of c.args.sheet.now).number = ap (λ (r : Reading). r.number) c.read_sheet-r.ensures in
-    c.read_sheet-r.ensures ∙ tested-kept c.args.sheet.now _ (sym n ∙ c.if-r-ne0.false) (omega (arith, c.store_for.ensures))
+    c.read_sheet-r.ensures ∙ tested_kept c.args.sheet.now _ (sym n ∙ c.if-r-ne0.false) (omega (arith, c.store_for.ensures))

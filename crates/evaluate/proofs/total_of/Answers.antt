@@ -7,12 +7,12 @@ use Rattle.plan.specs.declared.Plan.{Plan}
 use Rattle.plan.specs.Plan.{component_at}
 use Rattle.plan.specs.Valid.{Valid}
 use Rattle.plan.proofs.Loops.{from, from_next}
-use Rattle.plan.proofs.Tests.{every-below}
+use Rattle.plan.proofs.Tests.{every_below}
 use Rattle.evaluate.proofs.total_of.Invariants.{total_at}
 use Rattle.evaluate.proofs.total_of.Goals as goal
 
 small : {p : Plan} → Valid p → (i : ℕ) → i < p.count → (component_at p i).total ≤ most_total
-small {p} valid i h = (every-below (component_at p) 0 p.count i valid.totals (omega arith) (omega arith)).1
+small {p} valid i h = (every_below (component_at p) 0 p.count i valid.totals (omega arith) (omega arith)).1
 
 pub overflow_mul-product : goal.overflow_mul-product
 overflow_mul-product c =

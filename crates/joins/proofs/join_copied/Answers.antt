@@ -31,9 +31,9 @@ module _ (op : Join) (s a b x y : List ℕ) (left na right nb free : ℕ) (j : J
   fit : weights own < 2 ^ 64
   fit = rw pairs_are j.fits
 
-  bytes-are : {e : List ℕ} → e ≡ holding (take (length s - free) (drop free s)) (fill [] own).list
+  bytes_are : {e : List ℕ} → e ≡ holding (take (length s - free) (drop free s)) (fill [] own).list
       → take free s ++ (e ++ drop (length s - free) (drop free s)) ≡ joined_store op s left na right nb free
-  bytes-are h = rest_lent s free _ _ (h ∙ (λ k. holding (part_rest s free k) (fill [] (pairs_are k)).list))
+  bytes_are h = rest_lent s free _ _ (h ∙ (λ k. holding (part_rest s free k) (fill [] (pairs_are k)).list))
 
   module _ {n : ℕ} (h : n ≡ (fill [] own).count) where
     count_is : n ≡ (fill [] wanted).count
@@ -43,11 +43,11 @@ module _ (op : Join) (s a b x y : List ℕ) (left na right nb free : ℕ) (j : J
     Answers r =
         let l : List Focal = collect wanted in (r ≡ joined_as l) × ((join_number r ≡ number_of_join l) × (join_length r ≡ length_of_join l))
 
-    made-is : n ≤ 256 → Answers (Made n)
-    made-is t = answered (collect wanted) _ (made wanted n count_is t)
+    made_is : n ≤ 256 → Answers (Made n)
+    made_is t = answered (collect wanted) _ (made wanted n count_is t)
 
-    full-is : 256 < n → Answers Full
-    full-is t = answered (collect wanted) _ (full wanted n count_is t)
+    full_is : 256 < n → Answers Full
+    full_is t = answered (collect wanted) _ (full wanted n count_is t)
 
 pub join_lists-n-requires-clause-b_bound : goal.join_lists-n-requires-clause-b_bound
 join_lists-n-requires-clause-b_bound c =
@@ -55,32 +55,32 @@ join_lists-n-requires-clause-b_bound c =
 
 pub returns-then-n-le-MOST_INTERVALS-clause-value : goal.returns-then-n-le-MOST_INTERVALS-clause-value
 returns-then-n-le-MOST_INTERVALS-clause-value c =
-    let a = c.args in (made-is a.op a.store.now a.a.now a.b.now _ _ a.left a.na a.right a.nb a.free c.requires.joinable c.copy_from_slice.ensures.after c.copy_from_slice-2.ensures.after c.join_lists-n.ensures.value (omega arith)).0
+    let a = c.args in (made_is a.op a.store.now a.a.now a.b.now _ _ a.left a.na a.right a.nb a.free c.requires.joinable c.copy_from_slice.ensures.after c.copy_from_slice-2.ensures.after c.join_lists-n.ensures.value (omega arith)).0
 
 pub returns-then-n-le-MOST_INTERVALS-clause-result_value : goal.returns-then-n-le-MOST_INTERVALS-clause-result_value
 returns-then-n-le-MOST_INTERVALS-clause-result_value c =
-    let a = c.args in (made-is a.op a.store.now a.a.now a.b.now _ _ a.left a.na a.right a.nb a.free c.requires.joinable c.copy_from_slice.ensures.after c.copy_from_slice-2.ensures.after c.join_lists-n.ensures.value (omega arith)).1.0
+    let a = c.args in (made_is a.op a.store.now a.a.now a.b.now _ _ a.left a.na a.right a.nb a.free c.requires.joinable c.copy_from_slice.ensures.after c.copy_from_slice-2.ensures.after c.join_lists-n.ensures.value (omega arith)).1.0
 
 pub returns-then-n-le-MOST_INTERVALS-clause-result_value_2 : goal.returns-then-n-le-MOST_INTERVALS-clause-result_value_2
 returns-then-n-le-MOST_INTERVALS-clause-result_value_2 c =
-    let a = c.args in (made-is a.op a.store.now a.a.now a.b.now _ _ a.left a.na a.right a.nb a.free c.requires.joinable c.copy_from_slice.ensures.after c.copy_from_slice-2.ensures.after c.join_lists-n.ensures.value (omega arith)).1.1
+    let a = c.args in (made_is a.op a.store.now a.a.now a.b.now _ _ a.left a.na a.right a.nb a.free c.requires.joinable c.copy_from_slice.ensures.after c.copy_from_slice-2.ensures.after c.join_lists-n.ensures.value (omega arith)).1.1
 
 pub returns-then-n-le-MOST_INTERVALS-clause-store_after : goal.returns-then-n-le-MOST_INTERVALS-clause-store_after
 returns-then-n-le-MOST_INTERVALS-clause-store_after c =
-    let a = c.args in bytes-are a.op a.store.now a.a.now a.b.now _ _ a.left a.na a.right a.nb a.free c.requires.joinable c.copy_from_slice.ensures.after c.copy_from_slice-2.ensures.after c.join_lists-n.ensures.out_after
+    let a = c.args in bytes_are a.op a.store.now a.a.now a.b.now _ _ a.left a.na a.right a.nb a.free c.requires.joinable c.copy_from_slice.ensures.after c.copy_from_slice-2.ensures.after c.join_lists-n.ensures.out_after
 
 pub returns-else-n-le-MOST_INTERVALS-clause-value : goal.returns-else-n-le-MOST_INTERVALS-clause-value
 returns-else-n-le-MOST_INTERVALS-clause-value c =
-    let a = c.args in (full-is a.op a.store.now a.a.now a.b.now _ _ a.left a.na a.right a.nb a.free c.requires.joinable c.copy_from_slice.ensures.after c.copy_from_slice-2.ensures.after c.join_lists-n.ensures.value (omega arith)).0
+    let a = c.args in (full_is a.op a.store.now a.a.now a.b.now _ _ a.left a.na a.right a.nb a.free c.requires.joinable c.copy_from_slice.ensures.after c.copy_from_slice-2.ensures.after c.join_lists-n.ensures.value (omega arith)).0
 
 pub returns-else-n-le-MOST_INTERVALS-clause-result_value : goal.returns-else-n-le-MOST_INTERVALS-clause-result_value
 returns-else-n-le-MOST_INTERVALS-clause-result_value c =
-    let a = c.args in (full-is a.op a.store.now a.a.now a.b.now _ _ a.left a.na a.right a.nb a.free c.requires.joinable c.copy_from_slice.ensures.after c.copy_from_slice-2.ensures.after c.join_lists-n.ensures.value (omega arith)).1.0
+    let a = c.args in (full_is a.op a.store.now a.a.now a.b.now _ _ a.left a.na a.right a.nb a.free c.requires.joinable c.copy_from_slice.ensures.after c.copy_from_slice-2.ensures.after c.join_lists-n.ensures.value (omega arith)).1.0
 
 pub returns-else-n-le-MOST_INTERVALS-clause-result_value_2 : goal.returns-else-n-le-MOST_INTERVALS-clause-result_value_2
 returns-else-n-le-MOST_INTERVALS-clause-result_value_2 c =
-    let a = c.args in (full-is a.op a.store.now a.a.now a.b.now _ _ a.left a.na a.right a.nb a.free c.requires.joinable c.copy_from_slice.ensures.after c.copy_from_slice-2.ensures.after c.join_lists-n.ensures.value (omega arith)).1.1
+    let a = c.args in (full_is a.op a.store.now a.a.now a.b.now _ _ a.left a.na a.right a.nb a.free c.requires.joinable c.copy_from_slice.ensures.after c.copy_from_slice-2.ensures.after c.join_lists-n.ensures.value (omega arith)).1.1
 
 pub returns-else-n-le-MOST_INTERVALS-clause-store_after : goal.returns-else-n-le-MOST_INTERVALS-clause-store_after
 returns-else-n-le-MOST_INTERVALS-clause-store_after c =
-    let a = c.args in bytes-are a.op a.store.now a.a.now a.b.now _ _ a.left a.na a.right a.nb a.free c.requires.joinable c.copy_from_slice.ensures.after c.copy_from_slice-2.ensures.after c.join_lists-n.ensures.out_after
+    let a = c.args in bytes_are a.op a.store.now a.a.now a.b.now _ _ a.left a.na a.right a.nb a.free c.requires.joinable c.copy_from_slice.ensures.after c.copy_from_slice-2.ensures.after c.join_lists-n.ensures.out_after

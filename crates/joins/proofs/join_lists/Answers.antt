@@ -6,28 +6,28 @@ use Rattle.theory.specs.declared.Join.{Join}
 use Rattle.records.specs.Records.{record_at, records}
 use Rattle.records.specs.Store.{holding}
 use Rattle.records.specs.Insertion.{Insertable}
-use Rattle.records.proofs.Records.{records-next, records-end, records-under}
+use Rattle.records.proofs.Records.{records_next, records_end, records_under}
 use Rattle.joins.specs.Filling.{Filled, fill}
 use Rattle.joins.specs.Joins.{row_of}
-use Rattle.joins.proofs.Holding.{pairs-under, held_none}
-use Rattle.joins.proofs.Filling.{Filling, Done, row-insertable, filling_row, filling_row-stop, filling_done}
+use Rattle.joins.proofs.Holding.{pairs_under, held_none}
+use Rattle.joins.proofs.Filling.{Filling, Done, row_insertable, filling_row, filling_row_stop, filling_done}
 use Rattle.joins.proofs.join_lists.Goals as goal
 
 -- The pairs of a's records from place i on are still to go in.
 module _ (op : Join) (a : List ℕ) (na i : ℕ) (right : List Focal) {out₀ out : List ℕ} {m : ℕ} {g : Filled}
     (now : Filling out₀ out m (pairs op (drop i (records na a)) right) g) where
   done : i ≤ na → na ≤ i → Done out₀ out m g
-  done u h = filling_done (subst (λ (l : List Focal). Filling out₀ out m (pairs op l right) g) (records-end na i a h) now)
+  done u h = filling_done (subst (λ (l : List Focal). Filling out₀ out m (pairs op l right) g) (records_end na i a h) now)
 
   -- The row of one record, as it was read.
   module _ (lt : i < na) (f : Focal) (is : f ≡ record_at a i) where
     turn : Filling out₀ out m (row_of op f right ++ pairs op (drop (i + 1) (records na a)) right) g
     turn =
         subst (λ (x : Focal). Filling out₀ out m (row_of op x right ++ pairs op (drop (i + 1) (records na a)) right) g) (sym is)
-        (subst (λ (l : List Focal). Filling out₀ out m (pairs op l right) g) (records-next na i a lt) now)
+        (subst (λ (l : List Focal). Filling out₀ out m (pairs op l right) g) (records_next na i a lt) now)
 
     ready : Insertable out m (weights (row_of op f right))
-    ready = row-insertable (row_of op f right) (pairs op (drop (i + 1) (records na a)) right) turn
+    ready = row_insertable (row_of op f right) (pairs op (drop (i + 1) (records na a)) right) turn
 
     module _ {e : List ℕ} {n : ℕ} (count : n ≡ (fill (records m out) (row_of op f right)).count)
         (after : e ≡ holding out (fill (records m out) (row_of op f right)).list) where
@@ -35,7 +35,7 @@ module _ (op : Join) (a : List ℕ) (na i : ℕ) (right : List Focal) {out₀ ou
       goes = filling_row (row_of op f right) (pairs op (drop (i + 1) (records na a)) right) turn (count, after)
 
       stops : 256 < n → Done out₀ e n g
-      stops = filling_row-stop (row_of op f right) (pairs op (drop (i + 1) (records na a)) right) turn (count, after)
+      stops = filling_row_stop (row_of op f right) (pairs op (drop (i + 1) (records na a)) right) turn (count, after)
 
 pub loop-i-init : goal.loop-i-init
 loop-i-init c = (
@@ -44,8 +44,8 @@ loop-i-init c = (
     acc = [];
     held = held_none c.args.out.now (λ i. (c.type_inv.out i).fits) c.requires.na_in_bounds.2;
     under =
-        pairs-under c.args.op (records-under c.args.na c.args.a.now (λ i. (c.type_inv.a i).fits))
-        (records-under c.args.nb c.args.b.now (λ i. (c.type_inv.b i).fits));
+        pairs_under c.args.op (records_under c.args.na c.args.a.now (λ i. (c.type_inv.a i).fits))
+        (records_under c.args.nb c.args.b.now (λ i. (c.type_inv.b i).fits));
     fits = omega (arith, c.requires.b_bound);
     goal = refl;
   },

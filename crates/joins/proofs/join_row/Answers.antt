@@ -4,10 +4,10 @@ use Rattle.theory.specs.Focal.{Focal, focal}
 use Rattle.theory.specs.Joins.{joined, joined_focal}
 use Rattle.theory.specs.declared.Join.{Join}
 use Rattle.records.specs.Records.{key_of, keyed, record_at, records, speed_limit}
-use Rattle.records.proofs.Records.{from_key, records-next, records-end, records-under}
+use Rattle.records.proofs.Records.{from_key, records_next, records_end, records_under}
 use Rattle.joins.specs.Filling.{Filled}
 use Rattle.joins.specs.Joins.{row_of}
-use Rattle.joins.proofs.Holding.{joined-row-under, held, insertable}
+use Rattle.joins.proofs.Holding.{joined_row_under, held, insertable}
 use Rattle.joins.proofs.Filling.{Filling, Done, fits_now, filling_step, filling_stop, filling_done}
 use Rattle.joins.proofs.join_row.Goals as goal
 
@@ -15,10 +15,10 @@ use Rattle.joins.proofs.join_row.Goals as goal
 module _ (op : Join) (f : Focal) (b : List ℕ) (nb j : ℕ) {out₀ out : List ℕ} {m : ℕ} {g : Filled}
     (now : Filling out₀ out m (row_of op f (drop j (records nb b))) g) where
   turn : j < nb → Filling out₀ out m (joined_focal op f (record_at b j) ∷ row_of op f (drop (j + 1) (records nb b))) g
-  turn h = subst (λ (l : List Focal). Filling out₀ out m (row_of op f l) g) (records-next nb j b h) now
+  turn h = subst (λ (l : List Focal). Filling out₀ out m (row_of op f l) g) (records_next nb j b h) now
 
   done : j ≤ nb → nb ≤ j → Done out₀ out m g
-  done u h = filling_done (subst (λ (l : List Focal). Filling out₀ out m (row_of op f l) g) (records-end nb j b h) now)
+  done u h = filling_done (subst (λ (l : List Focal). Filling out₀ out m (row_of op f l) g) (records_end nb j b h) now)
 
 -- What goes in is the pair.
 given : (op : Join) (f g made : Focal) {low high : ℕ} → low ≡ g.low → high ≡ g.high → made.low ≡ joined op f.low low → made.high ≡ joined op f.high high
@@ -33,8 +33,8 @@ loop-j-init c = (
     acc = records c.args.n c.args.out.now;
     held = held c.args.out.now c.args.n _ (λ i. (c.type_inv.out i).fits) c.requires.insertable;
     under =
-        joined-row-under c.args.op (focal c.args.low c.args.high c.args.weight) (omega arith, omega arith)
-        (records-under c.args.nb c.args.b.now (λ i. (c.type_inv.b i).fits));
+        joined_row_under c.args.op (focal c.args.low c.args.high c.args.weight) (omega arith, omega arith)
+        (records_under c.args.nb c.args.b.now (λ i. (c.type_inv.b i).fits));
     fits = c.requires.insertable.fits;
     goal = refl;
   },

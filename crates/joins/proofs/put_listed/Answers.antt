@@ -11,8 +11,8 @@ use Rattle.records.specs.Insertion.{insertion_of, insert_or_stay}
 use Rattle.records.specs.Records.{Under, records, speed_limit, key_of, keyed}
 use Rattle.records.specs.Store.{holding}
 use Rattle.records.proofs.Records.{from_key}
-use Rattle.joins.proofs.Holding.{Held, held_none, insertable, held-count, held-step}
-use Rattle.joins.proofs.Listed.{collected, collected-none, collected-all, collected-next, collected-short}
+use Rattle.joins.proofs.Holding.{Held, held_none, insertable, held_count, held_step}
+use Rattle.joins.proofs.Listed.{collected, collected_none, collected_all, collected_next, collected_short}
 use Rattle.joins.proofs.put_listed.Goals as goal
 
 -- One turn: the interval at place i goes in, as it was read.
@@ -22,35 +22,35 @@ module _ (k : Component) (small : k.count ≤ most_held) (i : ℕ) (inside : suc
   under : Under speed_limit (focal_at k i)
   under = subst (Under speed_limit) is (omega arith, omega arith)
 
-  small-weight : (focal_at k i).weight ≤ 65535
-  small-weight = omega (arith, ap (λ (f : Focal). f.weight) is)
+  small_weight : (focal_at k i).weight ≤ 65535
+  small_weight = omega (arith, ap (λ (f : Focal). f.weight) is)
 
   fits : weights (collected k (suc i)) + (focal_at k i).weight < 2 ^ 64
-  fits = omega (arith, small-weight)
+  fits = omega (arith, small_weight)
 
   given : keyed (key_of read) read.weight ≡ focal_at k i
   given = from_key read (omega arith) ∙ is
 
   next : collected k i ≡ inserted (focal_at k i) (collected k (suc i))
-  next = collected-next k i (omega arith)
+  next = collected_next k i (omega arith)
 
   grown : weights (collected k i) ≡ weights (collected k (suc i)) + (focal_at k i).weight
   grown = rw next (omega (arith, weights_insert (focal_at k i) (collected k (suc i))))
 
   more : weights (collected k i) ≤ 65535 * (k.count - i)
-  more = omega (arith, grown, small-weight)
+  more = omega (arith, grown, small_weight)
 
   module _ {e : List ℕ} {r : Insertion} (value : r ≡ insertion_of (keyed (key_of read) read.weight) (records m out))
       (after : e ≡ holding out (insert_or_stay (keyed (key_of read) read.weight) (records m out))) where
     step : Held out₀ e r.count (collected k i)
     step =
         rw next
-        (held-step held under fits given (value, after)
-        (rw (held-count held under fits given (value, after), ← next) (omega (arith, collected-short k i))))
+        (held_step held under fits given (value, after)
+        (rw (held_count held under fits given (value, after), ← next) (omega (arith, collected_short k i))))
 
 pub loop-i-init : goal.loop-i-init
 loop-i-init c =
-    (omega arith, rw (collected-none c.args.c) ((omega arith, omega arith), held_none c.args.out.now (λ i. (c.type_inv.out i).fits) c.requires.1))
+    (omega arith, rw (collected_none c.args.c) ((omega arith, omega arith), held_none c.args.out.now (λ i. (c.type_inv.out i).fits) c.requires.1))
 
 pub insert-r-requires : goal.insert-r-requires
 insert-r-requires c = insertable c.loop-i.invariant.1.1 c.widened-weight.result (omega (arith, c.widened-weight.ensures))
@@ -86,7 +86,7 @@ pub returns-clause-value : goal.returns-clause-value
 returns-clause-value c =
     let k : Component = c.args.c in
     let i : c.loop-i.i ≡ 0 = omega arith in
-    let e : collected k c.loop-i.i ≡ collect (listed k) = ap (collected k) i ∙ collected-all k in
+    let e : collected k c.loop-i.i ≡ collect (listed k) = ap (collected k) i ∙ collected_all k in
     let h : Held c.args.out.now c.loop-i.out c.loop-i.m (collect (listed k)) = rw e at c.loop-i.invariant.1.1 in
     let r : c.loop-i.rest ≡ c.widened-rest.result - weights (collect (listed k)) = rw e at c.loop-i.invariant.1.0.1 in
     let q : c.loop-i.rest ≡ rest k = omega (arith, weights-collect (listed k), c.widened-rest.ensures) in

@@ -3,7 +3,7 @@ use mathlib.Core.Path.{◌≡◌, ap, ◌∙◌}
 use Prim.Native.Nat.{◌+◌, ◌-◌}
 use native.Mathlib.Omega.{arith}
 use Rattle.numbers.specs.Numbers.{onto, number_at}
-use Rattle.numbers.proofs.Numbers.{pow7, grow, number-next}
+use Rattle.numbers.proofs.Numbers.{pow7, grow, number_next}
 use Rattle.numbers.proofs.read_number.Goals as goal
 
 pub loop-i-init : goal.loop-i-init
@@ -34,7 +34,7 @@ loop-i-preserved c =
     let e : l.i + 1 - a.at ≡ k + 1 = omega arith in
     let at : a.at + k ≡ l.i = omega arith in
     rw p.pow2-base.ensures
-    (omega arith, omega arith, rw e (grow l.acc _ k l.invariant.2 b.1), rw (l.invariant.3, b.0, e, number-next a.s.now a.at k (omega arith), at))
+    (omega arith, omega arith, rw e (grow l.acc _ k l.invariant.2 b.1), rw (l.invariant.3, b.0, e, number_next a.s.now a.at k (omega arith), at))
 
 pub returns : goal.returns
 returns c =

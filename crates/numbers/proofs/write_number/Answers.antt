@@ -5,13 +5,13 @@ use Prim.Native.Nat.{ℕ, ◌+◌, ◌-◌, ◌/◌, ◌%◌, ◌^◌}
 use native.Mathlib.Nat.{div-one}
 use native.Mathlib.Omega.{arith}
 use lib.ListN.{set, length-set}
-use Rattle.numbers.proofs.Numbers.{spelt, spelt-none, spelt-more, shifted_out}
+use Rattle.numbers.proofs.Numbers.{spelt, spelt_none, spelt_more, shifted_out}
 use Rattle.numbers.proofs.write_number.Goals as goal
 
 pub loop-i-init : goal.loop-i-init
 loop-i-init c =
     let e : c.args.n - c.args.n ≡ 0 = omega arith in
-    (omega arith, (refl, (rw e (sym (div-one c.args.v)), spelt-none c.args.s.now c.args.at c.args.n c.args.v)))
+    (omega arith, (refl, (rw e (sym (div-one c.args.v)), spelt_none c.args.s.now c.args.at c.args.n c.args.v)))
 
 pub loop-i-preserved : goal.loop-i-preserved
 loop-i-preserved c =
@@ -29,7 +29,7 @@ loop-i-preserved c =
           ap (λ (y : ℕ). y / 256) inv.1.1.0 ∙ shifted_out a.v (a.n - i) ∙ ap (λ (k : ℕ). a.v / 256 ^ k) e2,
           (λ k. set (inv.1.1.1 k) (a.at + (i - 1)) (inv.1.1.0 k % 256))
               ∙ ap (λ (k : ℕ). set (spelt a.s.now a.at a.n a.v k) (a.at + (i - 1)) (a.v / 256 ^ (a.n - k) % 256)) e
-              ∙ spelt-more a.s.now a.at a.n a.v (i - 1) (omega arith) (omega arith),
+              ∙ spelt_more a.s.now a.at a.n a.v (i - 1) (omega arith) (omega arith),
         ),
       ),
     )

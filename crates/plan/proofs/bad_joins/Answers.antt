@@ -7,7 +7,7 @@ use native.Mathlib.Omega.{arith}
 use Rattle.theory.specs.Structure.{joins_find_two}
 use Rattle.theory.specs.Limits.{entry_count}
 use Rattle.plan.specs.Rules.{rule11}
-use Rattle.plan.proofs.Entries.{entries_from, entries-end, find-component, find_few, find-two}
+use Rattle.plan.proofs.Entries.{entries_from, entries_end, find_component, find_few, find_two_next}
 use Rattle.plan.proofs.bad_joins.Goals as goal
 use Rattle.plan.proofs.bad_joins.Goals.{in-Component, in-Join+else-is_short}
 
@@ -28,10 +28,10 @@ loop-j-preserved c =
     let h : l.j < m = omega arith in
     let d = sym c.entry_of-e.ensures.value in
     elim c.match-e.branch [
-      | in-Component w ↦ (omega arith, rw w.height-is (sym (find-component a.entries m l.j l.height h (d ∙ w.in-Component.is)) ∙ l.invariant.1), omega arith)
+      | in-Component w ↦ (omega arith, rw w.height-is (sym (find_component a.entries m l.j l.height h (d ∙ w.in-Component.is)) ∙ l.invariant.1), omega arith)
       | in-Join+else-is_short w ↦
           let two : 2 ≤ l.height = ltb-false _ _ (sym w.is_short.ensures ∙ w.if-is_short.false) in
-          (omega arith, rw w.height-is (sym (find-two a.entries m l.j l.height h (d ∙ w.in-Join.is) two) ∙ l.invariant.1), omega arith)
+          (omega arith, rw w.height-is (sym (find_two_next a.entries m l.j l.height h (d ∙ w.in-Join.is) two) ∙ l.invariant.1), omega arith)
     ]
 
 pub returns : goal.returns
@@ -39,5 +39,5 @@ unfolding rule11
 returns c =
     let a = c.args in
     let l = c.loop-j in
-    let e : joins_find_two (entries_from a.entries l.j (entry_count a.n)) l.height ≡ true = rw (entries-end a.entries l.j (entry_count a.n) (omega arith)) in
+    let e : joins_find_two (entries_from a.entries l.j (entry_count a.n)) l.height ≡ true = rw (entries_end a.entries l.j (entry_count a.n) (omega arith)) in
     ap not (sym e ∙ l.invariant.1)

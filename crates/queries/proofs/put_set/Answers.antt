@@ -3,8 +3,8 @@ use mathlib.Core.Path.{◌≡◌, refl}
 use Prim.Native.Nat.{◌+◌, ◌*◌, ◌<◌}
 use native.Mathlib.Omega.{arith}
 use lib.ListN.{length, get_or}
-use Rattle.numbers.proofs.Numbers.{placed-next}
-use Rattle.theory.proofs.Sums.{for_each-next}
+use Rattle.numbers.proofs.Numbers.{placed_next}
+use Rattle.theory.proofs.Sums.{for_each_next}
 use Rattle.records.specs.Records.{records}
 use Rattle.queries.specs.Shares.{shares_of, shares_bytes, encode_shares}
 use Rattle.queries.proofs.put_set.Goals as goal
@@ -18,6 +18,6 @@ loop-i-preserved c =
     let list = records a.n a.s.now in
     let shares : c.shares_at-shares.result ≡ shares_of (get_or ds i 0) list = c.shares_at-shares.ensures in
     let same : length c.put_shares.new.out ≡ length c.loop-i.out = omega arith in
-    let p = placed-next (shares_bytes * i) (shares_bytes * (i + 1)) (encode_shares (shares_of (get_or ds i 0) list)) c.loop-i.invariant.1 refl (omega arith) (omega arith) same
+    let p = placed_next (shares_bytes * i) (shares_bytes * (i + 1)) (encode_shares (shares_of (get_or ds i 0) list)) c.loop-i.invariant.1 refl (omega arith) (omega arith) same
     (rw shares at c.put_shares.ensures) in
-    (omega arith, rw (for_each-next (λ d. encode_shares (shares_of d list)) ds i 0) p, omega arith)
+    (omega arith, rw (for_each_next (λ d. encode_shares (shares_of d list)) ds i 0) p, omega arith)

@@ -12,10 +12,10 @@ use borrow.Author.Tests.{leb-true, leb-false}
 use Rattle.theory.specs.Limits.{thousandths}
 use Rattle.theory.specs.Focal.{Focal, no_focal, weights}
 use Rattle.theory.specs.Speed.{Meets, meets, speed_for}
-use Rattle.theory.proofs.Sums.{sum-next, sum-take}
+use Rattle.theory.proofs.Sums.{sum_next, sum_take}
 use Rattle.theory.proofs.Speed.{Found, found_speed, no_speed}
 use Rattle.records.specs.Records.{record_at, records}
-use Rattle.records.proofs.Records.{key-ends, length-records, records_at, record_under}
+use Rattle.records.proofs.Records.{key_ends, length-records, records_at, record_under}
 use Rattle.queries.proofs.speed_for.Goals as goal
 
 -- The search ends without a speed where no record is left.
@@ -32,11 +32,11 @@ module _ (n i : ℕ) (s : List ℕ) (h : i < n) where
   sum_is : {b w : ℕ} → b ≡ weights (take i (records n s)) → w ≡ (record_at s i).weight → b + w ≡ weights (take (i + 1) (records n s))
   sum_is e k =
       let weight = ap (λ (f : Focal). f.weight) (records_at n i s h) in
-      omega (arith, e, k, sum-next (λ f. f.weight) (records n s) i no_focal in_list, weight)
+      omega (arith, e, k, sum_next (λ f. f.weight) (records n s) i no_focal in_list, weight)
 
   -- which are not more than all weights.
   sum_fits : weights (take (i + 1) (records n s)) ≤ weights (records n s)
-  sum_fits = sum-take (λ f. f.weight) (i + 1) (records n s)
+  sum_fits = sum_take (λ f. f.weight) (i + 1) (records n s)
 
   -- The target is met at this place.
   found : (target total : ℕ) {b w : ℕ} {t : Bool} → b ≡ weights (take i (records n s)) → w ≡ (record_at s i).weight → t ≡ meets target total (b + w) → t ≡ true
@@ -70,7 +70,7 @@ returns-then-target_met c =
     let a = c.args in
     let i = c.loop-i.i in
     let inside : i < a.n = omega (arith, c.loop-i.invariant.0, c.if-i-n.false) in
-    let low = (key-ends (record_at a.s.now i) c.key_at.ensures (record_under a.s.now i (λ k. (c.type_inv.s k).fits)).1).0 in
+    let low = (key_ends (record_at a.s.now i) c.key_at.ensures (record_under a.s.now i (λ k. (c.type_inv.s k).fits)).1).0 in
     let this = found a.n i a.s.now inside a.target a.total c.loop-i.invariant.1.0 c.weight_at-belief.ensures c.target_met.ensures c.if-target_met.true (c.loop-i.invariant.1.1 (omega (arith, inside))) in
     low ∙ (ap (λ (f : Focal). f.low) (sym (records_at a.n i a.s.now inside)) ∙ found_speed a.target a.total c.requires.ordered this)
 

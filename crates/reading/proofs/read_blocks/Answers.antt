@@ -12,7 +12,7 @@ use Rattle.plan.specs.Rules.{either_flaws}
 use Rattle.reading.specs.declared.Blocks.{Blocks}
 use Rattle.reading.specs.Reading.{start_of, block_at, uncut_blocks, blocks_in}
 use Rattle.numbers.proofs.Numbers.{part_rest}
-use Rattle.reading.proofs.BlocksRead.{cut_is, block_fits, blocks_cut, blocks_uncut, uncut-next, count_fits, next_block}
+use Rattle.reading.proofs.BlocksRead.{cut_is, block_fits, blocks_cut, blocks_uncut, uncut_next, count_fits, next_block}
 use Rattle.reading.proofs.read_blocks.Invariants.{so_far}
 use Rattle.reading.proofs.read_blocks.Goals as goal
 
@@ -26,8 +26,8 @@ module _ (s : List ℕ) (i : ℕ) (r : Blocks) {b : Block} (p : r ≡ uncut_bloc
   found = q ∙ ap block_in (part_rest s r.end) ∙ ap (λ e. block_in (drop e s)) end_is
 
   -- The block that was read lies within the sheet.
-  within-sheet : r.end ≤ length s → r.end + b.size ≤ length s
-  within-sheet h = rw end_is (block_fits s i b found (omega (arith, end_is)))
+  within_sheet : r.end ≤ length s → r.end + b.size ≤ length s
+  within_sheet h = rw end_is (block_fits s i b found (omega (arith, end_is)))
 
   cut_as : {t : Bool} → b.cut ≡ t → cut_short (block_at s i) ≡ t
   cut_as w = sym (cut_is s i b found) ∙ w
@@ -48,7 +48,7 @@ component_flaws-requires c =
     count_fits c.args.sheet.now c.loop-i.i c.read_block-b.result (found c.args.sheet.now c.loop-i.i _ p q) (cut_as c.args.sheet.now c.loop-i.i _ p q c.if-b.false)
 
 pub overflow_add-end : goal.overflow_add-end
-overflow_add-end c = omega (arith, within-sheet c.args.sheet.now c.loop-i.i _ c.loop-i.invariant.1 c.read_block-b.ensures c.loop-i.invariant.2)
+overflow_add-end c = omega (arith, within_sheet c.args.sheet.now c.loop-i.i _ c.loop-i.invariant.1 c.read_block-b.ensures c.loop-i.invariant.2)
 
 pub loop-i-preserved : goal.loop-i-preserved
 loop-i-preserved c =
@@ -59,9 +59,9 @@ loop-i-preserved c =
     let so = so_far l.components l.nonzero l.flaws l.end in
     let w = cut_as s l.i so p q c.if-b.false in
     let e = c.either_flaws-flaws.ensures ∙ ap (either_flaws l.flaws) c.component_flaws.ensures in (
-      uncut-next s l.i l.invariant.0 w,
+      uncut_next s l.i l.invariant.0 w,
       next_block s l.i c.read_block-b.result (found s l.i so p q) w so _ _ p c.either-nonzero.ensures e,
-      within-sheet s l.i so p q l.invariant.2,
+      within_sheet s l.i so p q l.invariant.2,
     )
 
 pub returns : goal.returns

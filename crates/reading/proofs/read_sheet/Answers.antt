@@ -11,18 +11,18 @@ use Rattle.plan.specs.declared.Plan.{Plan}
 use Rattle.plan.specs.Plan.{structure_in}
 use Rattle.plan.specs.Tests.{first_broken, Unbroken}
 use Rattle.plan.specs.Rules.{flaw_tests, structure_tests, rules, Counted}
-use Rattle.plan.proofs.Numbers.{no_number, first_found, first-none}
+use Rattle.plan.proofs.Numbers.{no_number, first_found, first_none}
 use Rattle.reading.specs.declared.Head.{Head}
 use Rattle.reading.specs.declared.Blocks.{Blocks}
 use Rattle.reading.specs.Reading.{component_count, entries_at, bad_layout, uncut_blocks, blocks_in, plan_in, head_in, head_tests, layout_tests, sheet_tests, reading, read_of}
 use Rattle.reading.proofs.BlocksRead.{blocks_uncut}
-use Rattle.reading.proofs.SheetLayout.{head_number, head_count, Headed, headed, blocks_end, layout_uncut, plan_read, rules-read}
-use Rattle.reading.proofs.Decided.{reads-refused}
+use Rattle.reading.proofs.SheetLayout.{head_number, head_count, Headed, headed, blocks_end, layout_uncut, plan_read, rules_read}
+use Rattle.reading.proofs.Decided.{reads_refused}
 use Rattle.reading.proofs.read_sheet.Goals as goal
 
 -- What the head's number says.
-head-says : (s : List ℕ) {h : Head} → h ≡ head_in s → h.number ≡ first_broken (head_tests s)
-head-says s e = ap (λ (h : Head). h.number) e ∙ head_number s
+head_says : (s : List ℕ) {h : Head} → h ≡ head_in s → h.number ≡ first_broken (head_tests s)
+head_says s e = ap (λ (h : Head). h.number) e ∙ head_number s
 
 -- Where 1, 2 and 3 are kept.
 record Begun (s : List ℕ) (n : ℕ) : Type 0 where
@@ -32,7 +32,7 @@ record Begun (s : List ℕ) (n : ℕ) : Type 0 where
 
 begun : {s : List ℕ} {h : Head} → h ≡ head_in s → h.number ≡ 0 → Begun s h.count
 begun {s} {h} e z =
-    let no_head : first_broken (head_tests s) ≡ 0 = sym (head-says s e) ∙ z in
+    let no_head : first_broken (head_tests s) ≡ 0 = sym (head_says s e) ∙ z in
     let n : h.count ≡ component_count s = ap (λ (x : Head). x.count) e ∙ head_count s no_head in
     record { has = headed s no_head; count_is = n; counted = rw n (headed s no_head).counted }
 
@@ -62,15 +62,15 @@ number_is : {s : List ℕ} {n k m : ℕ} {b : Blocks} {es : List ℕ} → Laid s
 number_is {s} {n} {k} {m} {b} {es} d e f q =
     let g = d.begun_so in
     q
-    ∙ ap first_broken (rules-read s n g.count_is b d.blocks_are es (entries_are s _ n e f) g.counted.most)
-    ∙ sym (first-none (layout_tests s ++ rules (plan_in s)) g.has.kept ∙ first-none (rules (plan_in s)) d.kept)
+    ∙ ap first_broken (rules_read s n g.count_is b d.blocks_are es (entries_are s _ n e f) g.counted.most)
+    ∙ sym (first_none (layout_tests s ++ rules (plan_in s)) g.has.kept ∙ first_none (rules (plan_in s)) d.kept)
 
 pub returns-then-head-ne0 : goal.returns-then-head-ne0
 returns-then-head-ne0 c =
     let s = c.args.sheet.now in
-    let e = head-says s c.read_head-head.ensures in
+    let e = head_says s c.read_head-head.ensures in
     let no = c.if-head-ne0.true in
-    c.refuse.ensures ∙ reads-refused s _ no (e ∙ sym (first_found (head_tests s) (layout_tests s ++ rules (plan_in s)) (λ z. no (e ∙ z))))
+    c.refuse.ensures ∙ reads_refused s _ no (e ∙ sym (first_found (head_tests s) (layout_tests s ++ rules (plan_in s)) (λ z. no (e ∙ z))))
 
 pub read_blocks-b-requires : goal.read_blocks-b-requires
 read_blocks-b-requires c =
@@ -97,8 +97,8 @@ returns-then-layout-ne0 c =
     let s = c.args.sheet.now in
     let e = c.layout_number-layout.ensures in
     let no = c.if-layout-ne0.true in
-    let d = first-none (layout_tests s ++ rules (plan_in s)) g.has.kept ∙ first_found (layout_tests s) (rules (plan_in s)) (λ z. no (e ∙ z)) in
-    c.refuse-then-layout-ne0.ensures ∙ reads-refused s _ no (e ∙ sym d)
+    let d = first_none (layout_tests s ++ rules (plan_in s)) g.has.kept ∙ first_found (layout_tests s) (rules (plan_in s)) (λ z. no (e ∙ z)) in
+    c.refuse-then-layout-ne0.ensures ∙ reads_refused s _ no (e ∙ sym d)
 
 pub entry_count-m-requires : goal.entry_count-m-requires
 entry_count-m-requires c = (begun c.read_head-head.ensures c.if-head-ne0.false).counted
@@ -125,7 +125,7 @@ returns-then-number-ne0 c =
     let g = begun c.read_head-head.ensures c.if-head-ne0.false in
     let d = laid g c.read_blocks-b.ensures c.layout_number-layout.ensures c.if-layout-ne0.false in
     let k = number_is d c.read_entries-entries.ensures c.entry_count-m.ensures c.rules_number-number.ensures in
-    c.refuse-then-number-ne0.ensures ∙ reads-refused c.args.sheet.now _ c.if-number-ne0.true k
+    c.refuse-then-number-ne0.ensures ∙ reads_refused c.args.sheet.now _ c.if-number-ne0.true k
 
 pub returns : goal.returns
 unfolding read_of

@@ -3,7 +3,7 @@ use mathlib.Core.Path.{sym, ◌∙◌}
 use Prim.Native.Nat.{◌+◌, ◌-◌, ◌/◌}
 use native.Mathlib.Omega.{arith}
 use Rattle.records.specs.Records.{keyed}
-use Rattle.records.proofs.Place.{tested-above, tested-below}
+use Rattle.records.proofs.Place.{tested_above, tested_below}
 use Rattle.records.proofs.bisect.Goals as goal
 
 pub loop-lo-preserved-then-precedes : goal.loop-lo-preserved-then-precedes
@@ -11,7 +11,7 @@ loop-lo-preserved-then-precedes c =
     let a = c.args in
     omega (
       arith,
-      tested-above a.n a.s.now (keyed a.key 0) c.requires.in_order (c.loop-lo.lo + (c.loop-lo.hi - c.loop-lo.lo) / 2) (omega arith)
+      tested_above a.n a.s.now (keyed a.key 0) c.requires.in_order (c.loop-lo.lo + (c.loop-lo.hi - c.loop-lo.lo) / 2) (omega arith)
           (sym c.precedes.ensures ∙ c.if-precedes.true),
     )
 
@@ -20,5 +20,5 @@ loop-lo-preserved c =
     let a = c.args in
     omega (
       arith,
-      tested-below a.n a.s.now (keyed a.key 0) (c.loop-lo.lo + (c.loop-lo.hi - c.loop-lo.lo) / 2) (omega arith) (sym c.precedes.ensures ∙ c.if-precedes.false),
+      tested_below a.n a.s.now (keyed a.key 0) (c.loop-lo.lo + (c.loop-lo.hi - c.loop-lo.lo) / 2) (omega arith) (sym c.precedes.ensures ∙ c.if-precedes.false),
     )

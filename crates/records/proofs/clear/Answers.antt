@@ -4,7 +4,7 @@ use mathlib.Core.List.{List}
 use Prim.Native.Nat.{ℕ}
 use native.Mathlib.Omega.{arith}
 use lib.ListN.{set, length-set}
-use Rattle.records.proofs.Bytes.{zeroed-more}
+use Rattle.records.proofs.Bytes.{zeroed_more}
 use Rattle.records.proofs.clear.Goals as goal
 
 pub loop-i-preserved : goal.loop-i-preserved
@@ -16,6 +16,6 @@ loop-i-preserved c =
       omega arith,
       (
         omega arith,
-        (length-set s i 0 ∙ inv.1.1.0, ap (λ (l : List ℕ). set l i 0) inv.1.1.1 ∙ zeroed-more a.s.now a.from i (omega arith) (omega arith)),
+        (length-set s i 0 ∙ inv.1.1.0, ap (λ (l : List ℕ). set l i 0) inv.1.1.1 ∙ zeroed_more a.s.now a.from i (omega arith) (omega arith)),
       ),
     )

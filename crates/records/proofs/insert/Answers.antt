@@ -12,7 +12,7 @@ use Rattle.records.specs.Records.{record_at, records, with_weight, keyed}
 use Rattle.records.specs.Store.{with_record}
 use Rattle.records.specs.Insertion.{place}
 use Rattle.numbers.specs.Numbers.{Bytes}
-use Rattle.records.proofs.Place.{place-weight, place-count}
+use Rattle.records.proofs.Place.{place-weight, place_count}
 use Rattle.records.proofs.Inserting.{Inserted, insert_at, insert_in, insert_over, weight_le_sum}
 use Rattle.records.proofs.insert.Goals as goal
 use Rattle.records.proofs.insert.Goals.{then-p-n+else-matches, else-p-n}
@@ -42,13 +42,13 @@ returns-then-matches c =
     }
 
 pub overflow_mul-p : goal.overflow_mul-p
-overflow_mul-p c = omega (arith, place-count c.args.n c.args.s.now (keyed c.args.key 0), c.find-p.ensures)
+overflow_mul-p c = omega (arith, place_count c.args.n c.args.s.now (keyed c.args.key 0), c.find-p.ensures)
 
 pub shift-requires-clause-from_le_to : goal.shift-requires-clause-from_le_to
-shift-requires-clause-from_le_to c = omega (arith, place-count c.args.n c.args.s.now (keyed c.args.key 0), c.find-p.ensures)
+shift-requires-clause-from_le_to c = omega (arith, place_count c.args.n c.args.s.now (keyed c.args.key 0), c.find-p.ensures)
 
 pub write_record-requires : goal.write_record-requires
-write_record-requires c = omega (arith, place-count c.args.n c.args.s.now (keyed c.args.key 0), c.find-p.ensures)
+write_record-requires c = omega (arith, place_count c.args.n c.args.s.now (keyed c.args.key 0), c.find-p.ensures)
 
 pub returns-then-n-lt-MOST_INTERVALS : goal.returns-then-n-lt-MOST_INTERVALS
 returns-then-n-lt-MOST_INTERVALS c =

@@ -5,7 +5,7 @@ use Prim.Native.Nat.{ℕ, ◌+◌, ◌-◌}
 use native.Mathlib.Omega.{arith}
 use lib.ListN.{get_or, set, length-set}
 use Rattle.records.specs.Store.{moved_up}
-use Rattle.records.proofs.Bytes.{moved_up-more}
+use Rattle.records.proofs.Bytes.{moved_up_more}
 use Rattle.records.proofs.shift.Goals as goal
 
 pub loop-k-preserved : goal.loop-k-preserved
@@ -21,6 +21,6 @@ loop-k-preserved c =
         length-set s (a.from + 12 + (k - 1)) (get_or s (a.from + (k - 1)) 0) ∙ inv.1.0,
         (λ i. set (inv.1.1 i) (e2 i) (get_or (inv.1.1 i) (a.from + (k - 1)) 0))
             ∙ ap (λ (n : ℕ). set (moved_up a.s.now n a.to) (a.from + (k - 1) + 12) (get_or (moved_up a.s.now n a.to) (a.from + (k - 1)) 0)) e
-            ∙ moved_up-more a.s.now (a.from + (k - 1)) a.to (omega arith) (omega arith),
+            ∙ moved_up_more a.s.now (a.from + (k - 1)) a.to (omega arith) (omega arith),
       ),
     )

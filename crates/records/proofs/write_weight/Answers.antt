@@ -3,8 +3,8 @@ use mathlib.Core.Path.{◌∙◌}
 use Prim.Native.Nat.{◌*◌}
 use native.Mathlib.Omega.{arith}
 use borrow.Author.Rules.{rules}
-use Rattle.records.proofs.Records.{weight-stored}
+use Rattle.records.proofs.Records.{weight_stored}
 use Rattle.records.proofs.write_weight.Goals as goal
 
 pub returns : goal.returns
-returns c = let a = c.args in c.write_number.ensures ∙ weight-stored a.s.now (12 * a.i) a.weight (search rules) (omega arith)
+returns c = let a = c.args in c.write_number.ensures ∙ weight_stored a.s.now (12 * a.i) a.weight (search rules) (omega arith)

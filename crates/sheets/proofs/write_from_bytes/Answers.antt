@@ -7,7 +7,7 @@ use Rattle.plan.specs.Tests.{first_broken}
 use Rattle.writing.specs.declared.Written.{Written}
 use Rattle.writing.specs.Writing.{plan_tests, written_of, bytes_after}
 use Rattle.sheets.specs.Sheets.{length_bytes}
-use Rattle.sheets.proofs.Writer.{plan_short, answer-short, long-enough}
+use Rattle.sheets.proofs.Writer.{plan_short, answer_short, long_enough}
 use Rattle.sheets.proofs.write_from_bytes.Goals as goal
 
 pub returns-then-plan-lt-PLAN_BYTES : goal.returns-then-plan-lt-PLAN_BYTES
@@ -17,7 +17,7 @@ returns-then-plan-lt-PLAN_BYTES c =
 
 pub returns-then-answer-lt-LENGTH_BYTES : goal.returns-then-answer-lt-LENGTH_BYTES
 returns-then-answer-lt-LENGTH_BYTES c =
-    let way = answer-short c.args.plan.now c.args.sheet.now c.args.answer.now c.if-plan-lt-PLAN_BYTES.false c.if-answer-lt-LENGTH_BYTES.true in
+    let way = answer_short c.args.plan.now c.args.sheet.now c.args.answer.now c.if-plan-lt-PLAN_BYTES.false c.if-answer-lt-LENGTH_BYTES.true in
     record {
       value =
           c.first.ensures
@@ -30,7 +30,7 @@ returns-then-answer-lt-LENGTH_BYTES c =
 pub returns : goal.returns
 returns c =
     let a = c.args in
-    let way = long-enough a.plan.now a.sheet.now a.answer.now c.if-plan-lt-PLAN_BYTES.false c.if-answer-lt-LENGTH_BYTES.false in
+    let way = long_enough a.plan.now a.sheet.now a.answer.now c.if-plan-lt-PLAN_BYTES.false c.if-answer-lt-LENGTH_BYTES.false in
     let is = c.write_sheet-w.ensures.value ∙ ap (λ (p : Plan). written_of p (length a.sheet.now)) c.decode_plan-p.ensures in
     record {
       value = ap (λ (x : Written). x.number) is ∙ sym way.0;

@@ -9,10 +9,10 @@ use Rattle.theory.specs.Sums.{Every, more}
 use Rattle.plan.specs.declared.Plan.{Plan}
 use Rattle.plan.specs.Tests.{test, first_broken, Unbroken}
 use Rattle.plan.specs.Rules.{Sized}
-use Rattle.plan.proofs.Numbers.{no_number, first_found, first-none}
+use Rattle.plan.proofs.Numbers.{no_number, first_found, first_none}
 use Rattle.plan.proofs.Valid.{sized}
 use Rattle.writing.specs.Writing.{plan_tests, number_of, length_of}
-use Rattle.writing.proofs.Accepted.{written-length, written-refused}
+use Rattle.writing.proofs.Accepted.{written_length, written_refused}
 use Rattle.writing.proofs.test_plan.Goals as goal
 
 -- Where the plan's own rules are kept.
@@ -20,14 +20,14 @@ module _ (p : Plan) {k : ℕ} (e : k ≡ first_broken (plan_tests p)) (z : k ≡
   kept : Every Unbroken (plan_tests p)
   kept = no_number 11 (plan_tests p) refl (sym e ∙ z)
 
-  is-sized : Sized p
-  is-sized = go kept
+  is_sized : Sized p
+  is_sized = go kept
     where
       go : Every Unbroken (plan_tests p) → Sized p
       go (more three (more four others)) = sized p three four
 
-  last-decides : (room : ℕ) → number_of p room ≡ first_broken (test 15 (ltb room (length_of p)) ∷ [])
-  last-decides room = first-none (test 15 (ltb room (length_of p)) ∷ []) kept
+  last_decides : (room : ℕ) → number_of p room ≡ first_broken (test 15 (ltb room (length_of p)) ∷ [])
+  last_decides room = first_none (test 15 (ltb room (length_of p)) ∷ []) kept
 
 pub returns-then-number-ne0 : goal.returns-then-number-ne0
 returns-then-number-ne0 c =
@@ -35,21 +35,21 @@ returns-then-number-ne0 c =
     let e = c.plan_number-number.ensures in
     let no = c.if-number-ne0.true in
     c.refuse.ensures
-    ∙ written-refused a.p a.room _ no (e ∙ sym (first_found (plan_tests a.p) (test 15 (ltb a.room (length_of a.p)) ∷ []) (λ z. no (e ∙ z))))
+    ∙ written_refused a.p a.room _ no (e ∙ sym (first_found (plan_tests a.p) (test 15 (ltb a.room (length_of a.p)) ∷ []) (λ z. no (e ∙ z))))
 
 pub sheet_length-len-requires : goal.sheet_length-len-requires
-sheet_length-len-requires c = is-sized c.args.p c.plan_number-number.ensures c.if-number-ne0.false
+sheet_length-len-requires c = is_sized c.args.p c.plan_number-number.ensures c.if-number-ne0.false
 
 pub returns-then-room-len : goal.returns-then-room-len
 returns-then-room-len c =
     let a = c.args in
-    let d = last-decides a.p c.plan_number-number.ensures c.if-number-ne0.false a.room in
+    let d = last_decides a.p c.plan_number-number.ensures c.if-number-ne0.false a.room in
     let short = lt-ltb a.room (length_of a.p) (omega (arith, c.sheet_length-len.ensures, c.if-room-len.true)) in
-    c.refuse-then-room-len.ensures ∙ written-refused a.p a.room 15 (λ z. omega arith) (sym (d ∙ rw short))
+    c.refuse-then-room-len.ensures ∙ written_refused a.p a.room 15 (λ z. omega arith) (sym (d ∙ rw short))
 
 pub returns : goal.returns
 returns c =
     let a = c.args in
-    let d = last-decides a.p c.plan_number-number.ensures c.if-number-ne0.false a.room in
+    let d = last_decides a.p c.plan_number-number.ensures c.if-number-ne0.false a.room in
     let fits = le-ltb a.room (length_of a.p) (omega (arith, c.sheet_length-len.ensures, c.if-room-len.false)) in
-    rw c.sheet_length-len.ensures (sym (written-length a.p a.room (d ∙ rw fits)))
+    rw c.sheet_length-len.ensures (sym (written_length a.p a.room (d ∙ rw fits)))

@@ -7,13 +7,13 @@ use Rattle.plan.specs.declared.Plan.{Plan}
 use Rattle.plan.proofs.Valid.{sized}
 use Rattle.writing.specs.declared.Written.{Written}
 use Rattle.writing.specs.Writing.{number_of, length_of, written_of}
-use Rattle.writing.proofs.Accepted.{Accepted, number-accepts, written-number, written-length, refused_stays, accepted-bytes}
+use Rattle.writing.proofs.Accepted.{Accepted, number_accepts, written_number, written_length, refused_stays, accepted_bytes}
 use Rattle.writing.proofs.write_sheet.Goals as goal
 
 -- After the tests.
 module _ (p : Plan) (room : ℕ) {w : Written} (e : w ≡ written_of p room) where
   number_is : w.number ≡ number_of p room
-  number_is = ap (λ (x : Written). x.number) e ∙ written-number p room
+  number_is = ap (λ (x : Written). x.number) e ∙ written_number p room
 
   -- Where the plan is accepted.
   module _ (z : w.number ≡ 0) where
@@ -21,10 +21,10 @@ module _ (p : Plan) (room : ℕ) {w : Written} (e : w ≡ written_of p room) whe
     none = sym number_is ∙ z
 
     accepted : Accepted p room
-    accepted = number-accepts p room none
+    accepted = number_accepts p room none
 
     length_is : w.length ≡ length_of p
-    length_is = ap (λ (x : Written). x.length) (e ∙ written-length p room none)
+    length_is = ap (λ (x : Written). x.length) (e ∙ written_length p room none)
 
 pub returns-then-w-ne0-clause-out_after : goal.returns-then-w-ne0-clause-out_after
 returns-then-w-ne0-clause-out_after c =
@@ -46,4 +46,4 @@ put_sheet-requires-clause-len_value c =
 pub returns-clause-out_after : goal.returns-clause-out_after
 returns-clause-out_after c =
     let s = c.args.out.now in
-    c.put_sheet.ensures ∙ sym (accepted-bytes c.args.p s (none c.args.p (length s) c.test_plan-w.ensures (omega arith)))
+    c.put_sheet.ensures ∙ sym (accepted_bytes c.args.p s (none c.args.p (length s) c.test_plan-w.ensures (omega arith)))
