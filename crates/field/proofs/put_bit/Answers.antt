@@ -7,10 +7,9 @@ use Rattle.field.proofs.put_bit.Goals as goal
 
 pub overflow_cast-dst : goal.overflow_cast-dst
 overflow_cast-dst c =
-    let power = c in
-    let a = power.args in
+    let a = c.args in
     let byte = put_lt c.wide-x.result (7 - a.j % 8) a.b (omega arith) (omega arith) c.wide-x.ensures.1 in
-    record { fits = rw (c.with_bit.ensures, power.byte_pow2-p.ensures) byte }
+    record { fits = rw (c.with_bit.ensures, c.byte_pow2-p.ensures) byte }
 
 pub returns : goal.returns
 unfolding set_bit

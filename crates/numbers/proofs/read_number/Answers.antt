@@ -13,27 +13,20 @@ loop-i-init c =
     (omega arith, omega arith, rw e (omega arith), rw e)
 
 pub overflow_mul-acc : goal.overflow_mul-acc
-overflow_mul-acc c =
-    let l = c.loop-i in
-    let p = c in
-    rw p.pow2-base.ensures (omega (arith, pow7 (l.i - p.args.at) (omega arith)))
+overflow_mul-acc c = rw c.pow2-base.ensures (omega (arith, pow7 (c.loop-i.i - c.args.at) (omega arith)))
 
 pub overflow_add-acc : goal.overflow_add-acc
-overflow_add-acc c =
-    let l = c in
-    let p = l in
-    rw p.pow2-base.ensures (omega (arith, pow7 (l.loop-i.i - p.args.at) (omega arith)))
+overflow_add-acc c = rw c.pow2-base.ensures (omega (arith, pow7 (c.loop-i.i - c.args.at) (omega arith)))
 
 pub loop-i-preserved : goal.loop-i-preserved
 loop-i-preserved c =
-    let p = c in
-    let a = p.args in
+    let a = c.args in
     let l = c.loop-i in
     let b = c.wide.ensures in
     let k = l.i - a.at in
     let e : l.i + 1 - a.at ≡ k + 1 = omega arith in
     let at : a.at + k ≡ l.i = omega arith in
-    rw p.pow2-base.ensures
+    rw c.pow2-base.ensures
     (omega arith, omega arith, rw e (grow l.acc _ k l.invariant.2 b.1), rw (l.invariant.3, b.0, e, number_next a.s.now a.at k (omega arith), at))
 
 pub returns : goal.returns
