@@ -1,2 +1,2 @@
--- What the runner of the bench table compares.
+-- The sheets of the rows and their lists, and what a call on a sheet answers.
 pub mod Rows

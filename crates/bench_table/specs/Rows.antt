@@ -1,119 +1,154 @@
--- The sheets of the rows, and how an answer and a list differ from those of the table. Assumes nothing.
-use Rattle.std.specs.Prelude.{ℕ, zero, suc, ◌+◌, ◌-◌, ◌*◌, ◌/◌, Bool, not, ◌||◌, List, [], ◌∷◌, map, length, take, replicate, ◌==◌, slice_index, slice_set}
-use Rattle.theory.specs.Sums.{count_from}
+-- The sheets of the rows and their lists, and what a call on a sheet answers. Assumes nothing.
+use Rattle.std.specs.Prelude.{◌≡◌, ℕ, ◌-◌, ◌*◌, Ok, Err, List, [], ◌∷◌, ◌++◌, map, length, take, drop, replicate, slice_set}
+use Rattle.std.specs.List.{range_with_len}
 use Rattle.theory.specs.declared.Component.{Component}
-use Rattle.theory.specs.Limits.{most_intervals, record_bytes}
+use Rattle.theory.specs.declared.Focal.{Focal}
+use Rattle.theory.specs.declared.Join.{Join}
+use Rattle.theory.specs.declared.Entry.TheVariants.{Join as join}
+use Rattle.theory.specs.declared.Refusal.{Refusal}
+use Rattle.theory.specs.Codes.{code_of}
+use Rattle.theory.specs.Focal.{focal}
+use Rattle.theory.specs.Limits.{most_held, most_intervals}
 use Rattle.numbers.specs.Numbers.{number_at}
 use Rattle.plan.specs.declared.Plan.{Plan}
-use Rattle.plan.specs.Tests.{any_of}
+use Rattle.plan.specs.Plan.{zero_plan}
 use Rattle.writing.specs.Writing.{written_of, bytes_after}
-use Rattle.evaluate.specs.declared.Answer.{Answer}
-use Rattle.evaluate.specs.declared.SheetRun.{SheetRun}
-use Rattle.bench_table.specs.declared.Sheet.{Sheet}
+use Rattle.evaluate.specs.declared.Accepted.{Accepted}
+use Rattle.evaluate.specs.Answer.{answered_as, answer}
+use Rattle.evaluate.specs.Store.{store_after}
+use Rattle.evaluate.specs.SheetRun.{run_as}
+use Rattle.evaluate.specs.Speed.{speed_as, speed_answer, speed_store_after}
+use Rattle.evaluate.specs.Set.{set_answer, set_store_after, shares_after}
+use Rattle.bench_table.specs.declared.TheConstants.{LONGEST, SHARES_HELD, SHARES_ROOM, ONES}
+use Rattle.bench_table.specs.declared.call.Sheet.{Sheet}
+use Rattle.bench_table.specs.declared.call.Asked.{Asked}
+use Rattle.bench_table.specs.declared.call.Asked.TheVariants.{Bounds, Speed, Set}
+use Rattle.bench_table.specs.declared.call.Call.{Call}
+use Rattle.bench_table.specs.declared.Answer.{Answer}
+use Rattle.bench_table.specs.declared.Answer.TheVariants.{Bounds as bounds, Speed as speed, Set as set}
 
--- The bytes of the longest sheet.
-abbrev pub longest : ℕ
-longest = 224
+-- Eight places, the first of which hold numbers, and the others zero.
+abbrev pub places : List ℕ → List ℕ
+places xs = xs ++ drop (length xs) (replicate most_held 0)
 
--- The numbers of 8 bytes in a shares' buffer: two for each of four demands, and one behind them.
-abbrev pub shares_held : ℕ
-shares_held = 9
-
--- A component of up to three intervals: low, high and weight of each.
-unfoldable pub component_of : ℕ → ℕ → List ℕ → List ℕ → List ℕ → Component
-component_of total count x y z =
+-- A component: low, high and weight of each interval, and T.
+unfoldable pub component_of : ℕ → List (ℕ × ℕ × ℕ) → Component
+component_of total intervals =
     record {
-      lows = slice_index x 0 ∷ slice_index y 0 ∷ slice_index z 0 ∷ replicate 5 0;
-      highs = slice_index x 1 ∷ slice_index y 1 ∷ slice_index z 1 ∷ replicate 5 0;
-      weights = slice_index x 2 ∷ slice_index y 2 ∷ slice_index z 2 ∷ replicate 5 0;
-      count = count;
+      lows = places (map (λ f. f.0) intervals);
+      highs = places (map (λ f. f.1) intervals);
+      weights = places (map (λ f. f.2) intervals);
+      count = length intervals;
       total = total;
     }
 
--- The first so many of eight single speeds, with weight 1 each, and a total T.
-unfoldable pub single_speeds : List ℕ → ℕ → ℕ → Component
-single_speeds speeds count total = record { lows = speeds; highs = speeds; weights = replicate 8 1; count = count; total = total }
+-- A component of single speeds, with weight 1 each.
+unfoldable pub single_speeds : ℕ → List ℕ → Component
+single_speeds total speeds =
+    record { lows = places speeds; highs = places speeds; weights = replicate most_held 1; count = length speeds; total = total }
 
 -- "A: T 4, [0,0] weight 1, [2,3] weight 3. B: T 3, [1,1] weight 2, [1,4] weight 1."
 unfoldable pub component_a : Component
-component_a = component_of 4 2 (0 ∷ 0 ∷ 1 ∷ []) (2 ∷ 3 ∷ 3 ∷ []) (replicate 3 0)
+component_a = component_of 4 ((0, 0, 1) ∷ (2, 3, 3) ∷ [])
 
 unfoldable pub component_b : Component
-component_b = component_of 3 2 (1 ∷ 1 ∷ 2 ∷ []) (1 ∷ 4 ∷ 1 ∷ []) (replicate 3 0)
+component_b = component_of 3 ((1, 1, 2) ∷ (1, 4, 1) ∷ [])
 
 -- W: "[0,4] 20, [3,8] 67, [7,10] 13, in series with [0,6] 67, [8,10] 33".
 unfoldable pub W0 : Component
-W0 = component_of 100 3 (0 ∷ 4 ∷ 20 ∷ []) (3 ∷ 8 ∷ 67 ∷ []) (7 ∷ 10 ∷ 13 ∷ [])
+W0 = component_of 100 ((0, 4, 20) ∷ (3, 8, 67) ∷ (7, 10, 13) ∷ [])
 
 unfoldable pub W1 : Component
-W1 = component_of 100 2 (0 ∷ 6 ∷ 67 ∷ []) (8 ∷ 10 ∷ 33 ∷ []) (replicate 3 0)
+W1 = component_of 100 ((0, 6, 67) ∷ (8, 10, 33) ∷ [])
 
 -- "j, 8 times j, 64 times j, j from 0 to 7 (in D3 only the first so many)".
 abbrev pub times : ℕ → List ℕ
-times step = map (λ j. step * j) (count_from 0 8)
+times step = map (λ j. step * j) (range_with_len 0 8)
 
 unfoldable pub D1 : Component
-D1 = single_speeds (times 1) 8 8
+D1 = single_speeds 8 (times 1)
 
 unfoldable pub D2 : Component
-D2 = single_speeds (times 8) 8 8
+D2 = single_speeds 8 (times 8)
 
 unfoldable pub D3 : ℕ → Component
-D3 count = single_speeds (times 64) count count
+D3 count = single_speeds count (take count (times 64))
 
--- The plan of n components with the structure 0, 0 1 join or 0 1 join 2 join.
-unfoldable pub chain : ℕ → Component → Component → Component → ℕ → Plan
-chain n x y z join =
-    record { components = x ∷ y ∷ replicate 4 z; count = n; entries = 0 ∷ 1 ∷ join ∷ 2 ∷ join ∷ replicate 6 0 }
+-- The code of a join in a structure.
+abbrev pub join_code : Join → ℕ
+join_code op = code_of (join op)
 
--- A plan's sheet.
-unfoldable pub sheet_of : Plan → Sheet
-sheet_of p = record { bytes = bytes_after p (replicate longest 0); length = (written_of p longest).length }
+-- The plan of components, each joined to those before it: the structure 0, 0 1 join, 0 1 join 2 join and so on.
+unfoldable pub chain : List Component → Join → Plan
+chain cs op =
+    let code : ℕ = join_code op in
+    record {
+      components = cs ++ drop (length cs) zero_plan.components;
+      count = length cs;
+      entries = 0 ∷ 1 ∷ code ∷ 2 ∷ code ∷ 3 ∷ code ∷ 4 ∷ code ∷ 5 ∷ code ∷ [];
+    }
 
--- The sheet of A and B with another structure, which has its bytes 24 and 25.
-unfoldable pub restructured : Sheet → ℕ → ℕ → Sheet
-restructured s first second = record { bytes = slice_set (slice_set s.bytes 24 first) 25 second; length = s.length }
+-- The sheet of a plan.
+unfoldable pub sheet_of : Plan → List ℕ
+sheet_of p = take (written_of p LONGEST).length (bytes_after p (replicate LONGEST 0))
 
 -- The bytes of a sheet.
 abbrev pub bytes_of : Sheet → List ℕ
 bytes_of s = take s.length s.bytes
 
--- Two numbers differ.
-abbrev pub differ : ℕ → ℕ → Bool
-differ x y = not (x == y)
-
--- Two answers differ in some number.
-unfoldable pub answers_differ : Answer → Answer → Bool
-answers_differ a b =
-    (differ a.number b.number || differ a.total b.total)
-    || ((differ a.belief b.belief || differ a.plausibility b.plausibility)
-    || (differ a.pairs b.pairs || differ a.intervals b.intervals))
-
--- Two answers without shares differ in some number.
-unfoldable pub runs_differ : SheetRun → SheetRun → Bool
-runs_differ a b = (differ a.number b.number || differ a.total b.total) || (differ a.pairs b.pairs || differ a.intervals b.intervals)
-
--- Some number of 8 bytes in a shares' buffer differs from that of a list.
-unfoldable pub shares_differ : List ℕ → List ℕ → Bool
-shares_differ shares list = any_of (λ i. differ (number_at shares (8 * i) 8) (slice_index list i)) (count_from 0 shares_held)
-
--- Record i in a store differs from that of a list: low, high and weight of each record.
-unfoldable pub record_differs : List ℕ → List ℕ → ℕ → Bool
-record_differs store list i =
-    differ (number_at store (record_bytes * i) 2) (slice_index list (3 * i))
-    || (differ (number_at store (record_bytes * i + 2) 2) (slice_index list (3 * i + 1))
-    || differ (number_at store (record_bytes * i + 4) 8) (slice_index list (3 * i + 2)))
-
--- The list of `count` records in a store is not this list.
-unfoldable pub list_differs : List ℕ → ℕ → List ℕ → Bool
-list_differs store count list =
-    differ count (length list / 3) || any_of (record_differs store list) (count_from 0 (length list / 3))
-
--- Three numbers for each of 256 records: the first n are the speeds from 255 down, and every weight is 1.
-unfoldable pub speeds_down : ℕ → List ℕ
-speeds_down zero = replicate (3 * most_intervals) 1
-speeds_down (suc n) = let speed = most_intervals - 1 - n in slice_set (slice_set (speeds_down n) (3 * n) speed) (3 * n + 1) speed
+-- Every speed from 255 down, each with weight 1.
+unfoldable pub every_speed : List Focal
+every_speed = map (λ i. focal (most_intervals - 1 - i) (most_intervals - 1 - i) 1) (range_with_len 0 most_intervals)
 
 -- The same with 4,095 and 4,094 in places 62 and 63; 127 is the weight at 4,095.
-unfoldable pub speeds_to_ceiling : List ℕ
-speeds_to_ceiling = slice_set (slice_set (slice_set (slice_set (slice_set (speeds_down most_intervals) 186 4095) 187 4095) 188 127) 189 4094) 190 4094
+unfoldable pub speeds_to_ceiling : List Focal
+speeds_to_ceiling = slice_set (slice_set every_speed 62 (focal 4095 4095 127)) 63 (focal 4094 4094 1)
+
+-- A call asks this of a sheet, with this allowance and so many bytes of store and for shares.
+pub record Asks (call : Call) (sheet : List ℕ) (asked : Asked) (allowance store shares : ℕ) : Type 0 where
+  pub sheet_is : call.sheet.now ≡ sheet
+  pub asked_is : call.asked ≡ asked
+  pub allowance_is : call.allowance ≡ allowance
+  pub store_is : call.store ≡ store
+  pub shares_is : call.shares ≡ shares
+
+-- The numbers in a shares' buffer.
+unfoldable pub numbers_of : List ℕ → List ℕ
+numbers_of shares = map (λ i. number_at shares (8 * i) 8) (range_with_len 0 SHARES_HELD)
+
+-- A shares' buffer before a call.
+unfoldable pub untouched : List ℕ
+untouched = replicate SHARES_ROOM 1
+
+-- What a call answers on a store, and the store afterwards: what the one of evaluate's calls that it makes does; and each number in the
+-- shares' buffer, of which it was lent the first bytes.
+unfoldable pub Answered : Asked → Call → List ℕ → Answer → List ℕ → Type 0
+Answered (Bounds demand) call store (bounds got) after =
+    (answered_as got ≡ answer call.sheet.now demand call.allowance (length store)) × (after ≡ store_after call.sheet.now call.allowance store)
+Answered (Speed target) call store (speed got) after =
+    (speed_as got ≡ speed_answer call.sheet.now target call.allowance (length store))
+    × (after ≡ speed_store_after call.sheet.now target call.allowance store)
+Answered (Set demands) call store (set got numbers) after =
+    let lent : List ℕ = take call.shares untouched in
+    (run_as got ≡ set_answer call.sheet.now demands.now call.allowance (length store) (length lent))
+    × (after ≡ set_store_after call.sheet.now demands.now call.allowance store (length lent))
+    × (numbers ≡ numbers_of (shares_after call.sheet.now demands.now call.allowance (length store) lent ++ drop call.shares untouched))
+Answered _ call store got after = ⊥
+
+-- What a refused call answers: a shares' buffer is left as it was.
+abbrev pub refused_as : Asked → Refusal → Answer
+refused_as (Bounds demand) refusal = bounds (Err refusal)
+refused_as (Speed target) refusal = speed (Err refusal)
+refused_as (Set demands) refusal = set (Err refusal) (replicate SHARES_HELD ONES)
+
+-- The length of the list in the store after an answer.
+abbrev pub intervals_of : Answer → ℕ
+intervals_of (bounds (Ok a)) = a.intervals
+intervals_of (speed (Ok a)) = a.answer.intervals
+intervals_of (set (Ok r) numbers) = r.intervals
+intervals_of _ = 0
+
+-- What an accepted ordinary call answers.
+abbrev pub accepted_of : ℕ → ℕ → ℕ → ℕ → ℕ → Accepted
+accepted_of total belief plausibility pairs intervals =
+    record { total = total; belief = belief; plausibility = plausibility; pairs = pairs; intervals = intervals }

@@ -2,26 +2,22 @@
 use mathlib.Core.Path.{◌≡◌, refl, sym, ap, ◌∙◌}
 use mathlib.Core.Bool.{Bool, true, false, ◌||◌, true≢false}
 use mathlib.Core.List.{List}
-use Prim.Native.Nat.{ℕ, ◌+◌, ◌^◌, ◌≤◌, ◌<◌}
+use Prim.Native.Nat.{ℕ, ◌≤◌, ◌<◌}
 use native.Mathlib.Omega.{arith}
 use borrow.Author.Tests.{le-ltb, ltb-false}
 use lib.Dec.{ltb}
 use lib.ListN.{length}
 use Rattle.field.specs.Bits.{field_at}
-use Rattle.field.proofs.Field.{field_below}
-use Rattle.reader.specs.Fields.{three_at}
-use Rattle.reader.specs.declared.Triple.{Triple}
 use Rattle.theory.specs.Limits.{most_held}
-use Rattle.theory.specs.Focal.{Focal, focal_at}
-use Rattle.block.specs.Block.{count_bits, zero_bits, place_of, size_of, padding_of, count_in, cut_short, bad_zero_bits, filled_with, component_in, no_block, block_in}
+use Rattle.theory.specs.Focal.{focal_at}
+use Rattle.theory.specs.declared.Focal.{Focal}
+use Rattle.block.specs.Block.{count_bits, zero_bits, place_of, size_of, padding_of, count_in, cut_short, bad_zero_bits, filled_with, zero_component, component_in, block_in}
 use Rattle.block.specs.declared.Block.{Block}
+use Rattle.std.specs.Array.{AllOfLen}
+use Rattle.std.specs.Prelude.{Some, None, replicate}
+use Rattle.std.proofs.lemmas.List.{length-replicate, get_or-replicate, ext_get_or}
+use Rattle.theory.specs.declared.Component.{Component}
 use Rattle.block.proofs.Rows.{row_ext, row_used}
-
--- Three fields of at most 16 bits fit 16 bits.
-pub narrow : (s : List ℕ) (p a b c : ℕ) (t : Triple) → a ≤ 16 → b ≤ 16 → c ≤ 16 → t ≡ three_at s p a b c
-    → (t.first < 2 ^ 16) × (t.second < 2 ^ 16) × (t.third < 2 ^ 16)
-narrow s p a b c t i j k e =
-    rw e (field_below s p a 16 i, field_below s (p + a) b 16 j, field_below s (p + a + b) c 16 k)
 
 pub neither : (a b : Bool) → (a || b) ≡ false → (a ≡ false) × (b ≡ false)
 neither true b e = absurd (true≢false e)
@@ -64,28 +60,39 @@ no_bad_bits s a b = simp (a, b)
 
 -- The two cases of a block that is read.
 pub block_uncut : (s : List ℕ) → cut_short s ≡ false
-    → block_in s ≡ record { cut = false; nonzero = bad_zero_bits s; size = size_of (count_in s); component = component_in s }
+    → block_in s ≡ Some (record { nonzero = bad_zero_bits s; size = size_of (count_in s); component = component_in s })
 unfolding block_in
 block_uncut s e = rw e
 
-pub block_cut : (s : List ℕ) → cut_short s ≡ true → block_in s ≡ no_block
+pub block_cut : (s : List ℕ) → cut_short s ≡ true → block_in s ≡ None
 unfolding block_in
 block_cut s e = rw e
 
--- What is said of the cut is so, and a block that is read lies within what is there.
-pub block_says : (s : List ℕ) → (block_in s).cut ≡ cut_short s
-block_says s = go (cut_short s) refl
+-- A block that is read is not cut short, and is what stands there.
+pub block_read : (s : List ℕ) (b : Block) → Some b ≡ block_in s
+    → (cut_short s ≡ false) × (b ≡ record { nonzero = bad_zero_bits s; size = size_of (count_in s); component = component_in s })
+block_read s b e = go (cut_short s) refl
   where
-    go : (b : Bool) → cut_short s ≡ b → (block_in s).cut ≡ cut_short s
-    go true e = ap (λ (b : Block). b.cut) (block_cut s e) ∙ sym e
-    go false e = ap (λ (b : Block). b.cut) (block_uncut s e) ∙ sym e
+    go : (c : Bool) → cut_short s ≡ c → (cut_short s ≡ false) × (b ≡ record { nonzero = bad_zero_bits s; size = size_of (count_in s); component = component_in s })
+    go true h = let q : Some b ≡ None = e ∙ block_cut s h in absurd (cc q)
+    go false h = let q : Some b ≡ Some (record { nonzero = bad_zero_bits s; size = size_of (count_in s); component = component_in s }) = e ∙ block_uncut s h in (h, cc)
 
-pub size_fits : (s : List ℕ) → (block_in s).size ≤ length s
-size_fits s = go (cut_short s) refl
-  where
-    go : (b : Bool) → cut_short s ≡ b → (block_in s).size ≤ length s
-    go true e = rw (block_cut s e) (omega arith)
-    go false e = rw (block_uncut s e) (uncut s e).there
+-- A component by default is that of zeros.
+zeros_are : {xs : List ℕ} (n : ℕ) → AllOfLen (λ x. x ≡ 0) xs n → xs ≡ replicate n 0
+zeros_are {xs} n a =
+    ext_get_or 0 xs (replicate n 0) (a.long ∙ sym (length-replicate n 0))
+    (λ i h. a.at i 0 (rw a.long at h) ∙ sym (get_or-replicate n i 0 0 (rw a.long at h)))
+
+abbrev pub ByDefault : Component → Type 0
+ByDefault c =
+    AllOfLen (λ x. x ≡ 0) c.lows most_held
+    × (AllOfLen (λ x. x ≡ 0) c.highs most_held × (AllOfLen (λ x. x ≡ 0) c.weights most_held × ((c.count ≡ 0) × (c.total ≡ 0))))
+
+pub default_is_zero : (c : Component) → ByDefault c → c ≡ zero_component
+default_is_zero c d =
+    let e : ◌≡◌ {A = Component} (record { lows = c.lows; highs = c.highs; weights = c.weights; count = c.count; total = c.total }) zero_component =
+    rw (zeros_are most_held d.0, zeros_are most_held d.1.0, zeros_are most_held d.1.1.0, d.1.1.1.0, d.1.1.1.1) in
+    e
 
 -- A component that is filled: it depends on the used places alone, and each holds its interval.
 pub filled_ext : (f g : ℕ → Focal) (k n t : ℕ) → ((i : ℕ) → i < k → f i ≡ g i) → filled_with f k n t ≡ filled_with g k n t

@@ -12,7 +12,8 @@ use Rattle.field.specs.Bits.{field_at}
 use Rattle.field.specs.Fields.{width_of, Fitting, Holds}
 use Rattle.field.proofs.Fields.{width_append, fitting_append, holds_append, holds_left, holds_right}
 use Rattle.theory.specs.Limits.{most_held}
-use Rattle.theory.specs.Focal.{Focal, focal_at}
+use Rattle.theory.specs.Focal.{focal_at}
+use Rattle.theory.specs.declared.Focal.{Focal}
 use Rattle.theory.specs.declared.Component.{Component}
 use Rattle.block.specs.Block.{count_bits, total_bits, speed_bits, weight_bits, interval_bits, place_of, size_of, padding_of, count_in, total_in}
 use Rattle.block.specs.Block.{interval_in, cut_short, bad_zero_bits, component_of, component_in, interval_of, intervals_of, fields_of, cleaned}

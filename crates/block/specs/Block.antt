@@ -1,9 +1,11 @@
 -- "The sheet": a component's block, as it stands at the front of a list of bytes, and as it is written. Assumes nothing.
-use Rattle.std.specs.Prelude.{ℕ, zero, suc, ◌+◌, ◌-◌, ◌*◌, ◌/◌, Bool, true, false, cond, ◌||◌, List, [], ◌∷◌, ◌++◌, ltb, length, replicate}
+use Rattle.std.specs.Prelude.{ℕ, zero, suc, ◌+◌, ◌-◌, ◌*◌, ◌/◌, Bool, cond, ◌||◌, Option, Some, None, List, [], ◌∷◌, ◌++◌, ltb, length, replicate}
 use Rattle.field.specs.Bits.{field_at}
-use Rattle.field.specs.Fields.{Field, bits}
+use Rattle.field.specs.Fields.{bits}
+use Rattle.field.specs.declared.Field.{Field}
 use Rattle.theory.specs.Limits.{most_held}
-use Rattle.theory.specs.Focal.{Focal, focal_at}
+use Rattle.theory.specs.Focal.{focal_at}
+use Rattle.theory.specs.declared.Focal.{Focal}
 use Rattle.theory.specs.declared.Component.{Component}
 use Rattle.block.specs.Rows.{row}
 use Rattle.block.specs.declared.Block.{Block}
@@ -44,20 +46,23 @@ size_of k = (place_of k + 7) / 8
 abbrev pub padding_of : ℕ → ℕ
 padding_of k = 8 * size_of k - place_of k
 
--- What stands in the block at the front of s: k, T and interval i.
+-- What stands in the block at the front of s: k, T, the interval at a bit, and interval i.
 abbrev pub count_in : List ℕ → ℕ
 count_in s = field_at s 0 count_bits
 
 abbrev pub total_in : List ℕ → ℕ
 total_in s = field_at s (count_bits + zero_bits) total_bits
 
-abbrev pub interval_in : List ℕ → ℕ → Focal
-interval_in s i =
+abbrev pub interval_at : List ℕ → ℕ → Focal
+interval_at s place =
     record {
-      low = field_at s (place_of i) speed_bits;
-      high = field_at s (place_of i + speed_bits) speed_bits;
-      weight = field_at s (place_of i + speed_bits + speed_bits) weight_bits;
+      low = field_at s place speed_bits;
+      high = field_at s (place + speed_bits) speed_bits;
+      weight = field_at s (place + speed_bits + speed_bits) weight_bits;
     }
+
+abbrev pub interval_in : List ℕ → ℕ → Focal
+interval_in s i = interval_at s (place_of i)
 
 -- Number 4 of a block: its k is not 1 to 8, or it is cut short.
 unfoldable pub cut_short : List ℕ → Bool
@@ -93,13 +98,9 @@ cleaned c = filled_with (focal_at c) c.count c.count c.total
 abbrev pub zero_component : Component
 zero_component = record { lows = replicate most_held 0; highs = replicate most_held 0; weights = replicate most_held 0; count = 0; total = 0 }
 
--- What is read where a block is cut short.
-abbrev pub no_block : Block
-no_block = record { cut = true; nonzero = false; size = 0; component = zero_component }
-
--- What is read at the front of s.
-unfoldable pub block_in : List ℕ → Block
-block_in s = cond (cut_short s) no_block (record { cut = false; nonzero = bad_zero_bits s; size = size_of (count_in s); component = component_in s })
+-- What is read at the front of s: no block where it is cut short or its k is not 1 to 8.
+unfoldable pub block_in : List ℕ → Option Block
+block_in s = cond (cut_short s) None (Some (record { nonzero = bad_zero_bits s; size = size_of (count_in s); component = component_in s }))
 
 -- A block as it is written: an interval's fields, those of the first n intervals, and all.
 abbrev pub interval_of : Component → ℕ → List Field

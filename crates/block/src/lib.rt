@@ -1,15 +1,15 @@
 // The block of one component, read and written.
 #![tactic(auto)]
 
-ghost use Rattle.std.specs.Prelude.{◌≡◌, ◌||◌, ◌≤◌, ◌*◌, ltb, length};
+ghost use Rattle.std.specs.Prelude.{◌≡◌, ◌≤◌, ◌*◌, length};
 ghost use Rattle.field.specs.Fields.{WindowInside, put_all};
-ghost use Rattle.reader.specs.Fields.{three_at};
 ghost use Rattle.theory.specs.Limits.{most_held};
-ghost use Rattle.block.specs.Block.{speed_bits, weight_bits, interval_bits, place_of, size_of, padding_of, component_of, zero_component};
-ghost use Rattle.block.specs.Block.{no_block, block_in, intervals_of, fields_of};
+ghost use Rattle.block.specs.Block.{interval_bits, place_of, size_of, padding_of, interval_at, component_of};
+ghost use Rattle.block.specs.Block.{block_in, intervals_of, fields_of};
 
-use reader::Triple;
-use theory::{Component, MOST_HELD};
+use field::Field;
+use reader::Reader;
+use theory::{Component, Focal, MOST_HELD};
 
 // The widths of a block's fields: specs/Block.antt has them with document 01's words.
 const COUNT_BITS: usize = 4;
@@ -28,11 +28,10 @@ const BLOCK_HEAD_BYTES: usize = BLOCK_HEAD_BITS / 8;
 
 const INTERVAL_BITS: usize = SPEED_BITS + SPEED_BITS + WEIGHT_BITS;
 
-// What stands at the front of a part of a sheet: whether the block is cut short (number 4), whether a bit of it that is named
-// zero is one (number 5), its bytes, and its component.
+// What stands at the front of a part of a sheet that is not cut short: whether a bit of it that is named zero is one (number 5), its bytes,
+// and its component.
 #[derive(Clone, Copy)]
 pub struct Block {
-    pub cut: bool,
     pub nonzero: bool,
     pub size: usize,
     pub component: Component,
@@ -62,45 +61,19 @@ fn padding_bits(k: usize) -> usize
     (8 - interval_place(k) % 8) % 8
 }
 
-// The component of zeros.
-pub fn zero_component() -> Component
-    ensures { result ≡ zero_component }
-{
-    Component {
-        lows: [0; MOST_HELD],
-        highs: [0; MOST_HELD],
-        weights: [0; MOST_HELD],
-        count: 0,
-        total: 0,
-    }
-}
-
-fn no_block() -> Block
-    ensures { result ≡ no_block }
-{
-    let c = zero_component();
-    Block {
-        cut: true,
-        nonzero: false,
-        size: 0,
-        component: c,
-    }
-}
-
-// The low, the high and the weight of the interval at bit `place`. Its bits are gathered once; the sizes of its fields are fixed entries of
-// the table.
-fn read_interval(part: &[u8], place: usize) -> Triple
+// The interval at bit `place`. Its bits are gathered once; the sizes of its fields are fixed entries of the table.
+fn read_interval(part: &[u8], place: usize) -> Focal
     requires { WindowInside part.now place interval_bits }
-    ensures { result ≡ three_at part.now place speed_bits speed_bits weight_bits }
+    ensures { result ≡ interval_at part.now place }
 {
-    let bits = reader::window(part, place, INTERVAL_BITS);
+    let bits = Reader::new(part, place).window(INTERVAL_BITS);
     let speed_size = powers::pow2(SPEED_BITS);
     let weight_size = powers::pow2(WEIGHT_BITS);
     let high_weight_size = powers::pow2(SPEED_BITS + WEIGHT_BITS);
-    Triple {
-        first: (bits / high_weight_size % speed_size) as u32,
-        second: (bits / weight_size % speed_size) as u32,
-        third: (bits % weight_size) as u32,
+    Focal {
+        low: (bits / high_weight_size % speed_size) as u16,
+        high: (bits / weight_size % speed_size) as u16,
+        weight: bits % weight_size,
     }
 }
 
@@ -109,51 +82,44 @@ fn read_component(part: &[u8], k: usize, total: u16) -> Component
     requires { (k ≤ most_held) × (size_of k ≤ length part.now) }
     ensures { result ≡ component_of part.now k total }
 {
-    let mut c = zero_component();
+    let mut c = Component::default();
+    // By place: an interval's three numbers lie in three arrays, as document 01 has them.
     for i in 0..k {
-        let t = read_interval(part, interval_place(i));
-        c.lows[i] = t.first as u16;
-        c.highs[i] = t.second as u16;
-        c.weights[i] = t.third as u16;
+        let f = read_interval(part, interval_place(i));
+        c.lows[i] = f.low;
+        c.highs[i] = f.high;
+        c.weights[i] = f.weight as u16;
     }
     c.count = k;
     c.total = total;
     c
 }
 
-fn either_nonzero(a: u32, b: u32) -> bool
-    ensures { result ≡ (ltb 0 a || ltb 0 b) }
-{
-    if 0 < a { true } else { 0 < b }
-}
-
-// The block at the front of part, which is the rest of a sheet from the block's first byte on.
-pub fn read_block(part: &[u8]) -> Block
+// The block at the front of part, which is the rest of a sheet from the block's first byte on; none where it is cut short or its k is not
+// 1 to 8 (number 4).
+pub fn read_block(part: &[u8]) -> Option<Block>
     ensures { result ≡ block_in part.now }
 {
     if part.len() < BLOCK_HEAD_BYTES {
-        return no_block();
+        return None;
     }
-    let head = reader::three(part, 0, COUNT_BITS, ZERO_BITS, TOTAL_BITS);
-    let k = head.first as usize;
-    if k < 1 {
-        return no_block();
-    }
-    if MOST_HELD < k {
-        return no_block();
+    let mut head = Reader::new(part, 0);
+    let k = head.take(COUNT_BITS) as usize;
+    let zero = head.take(ZERO_BITS);
+    let total = head.take(TOTAL_BITS) as u16;
+    if !(1..=MOST_HELD).contains(&k) {
+        return None;
     }
     let size = block_size(k);
     if part.len() < size {
-        return no_block();
+        return None;
     }
-    let padding = reader::one(part, interval_place(k), padding_bits(k));
-    let c = read_component(part, k, head.third as u16);
-    Block {
-        cut: false,
-        nonzero: either_nonzero(head.second, padding),
-        size: size,
-        component: c,
-    }
+    let padding = Reader::new(part, interval_place(k)).take(padding_bits(k));
+    Some(Block {
+        nonzero: 0 < zero || 0 < padding,
+        size,
+        component: read_component(part, k, total),
+    })
 }
 
 // The intervals of c, in a block at the front of dst.
@@ -161,18 +127,21 @@ fn put_intervals(dst: &mut [u8], c: Component)
     requires { (c.count ≤ most_held) × (place_of c.count ≤ 8 * length dst.old) }
     ensures { dst.new ≡ put_all dst.old (place_of 0) (intervals_of c c.count) }
 {
-    let k = c.count;
-    for i in 0..k {
-        field::put_three(
-            dst,
-            interval_place(i),
-            SPEED_BITS,
-            c.lows[i] as u32,
-            SPEED_BITS,
-            c.highs[i] as u32,
-            WEIGHT_BITS,
-            c.weights[i] as u32,
-        );
+    // By place, as they are read.
+    for i in 0..c.count {
+        let low = Field {
+            width: SPEED_BITS,
+            value: u32::from(c.lows[i]),
+        };
+        let high = Field {
+            width: SPEED_BITS,
+            value: u32::from(c.highs[i]),
+        };
+        let weight = Field {
+            width: WEIGHT_BITS,
+            value: u32::from(c.weights[i]),
+        };
+        field::put_fields(dst, interval_place(i), &[low, high, weight]);
     }
 }
 
@@ -182,17 +151,19 @@ pub fn write_block(dst: &mut [u8], c: Component)
     ensures { dst.new ≡ put_all dst.old 0 (fields_of c) }
 {
     let k = c.count;
-    let end = interval_place(k);
-    field::put_three(
-        dst,
-        0,
-        COUNT_BITS,
-        k as u32,
-        ZERO_BITS,
-        0,
-        TOTAL_BITS,
-        c.total as u32,
-    );
+    let count = Field {
+        width: COUNT_BITS,
+        value: k as u32,
+    };
+    let zero = Field {
+        width: ZERO_BITS,
+        value: 0,
+    };
+    let total = Field {
+        width: TOTAL_BITS,
+        value: u32::from(c.total),
+    };
+    field::put_fields(dst, 0, &[count, zero, total]);
     put_intervals(dst, c);
-    field::put_field(dst, end, padding_bits(k), 0);
+    field::put_field(dst, interval_place(k), padding_bits(k), 0);
 }

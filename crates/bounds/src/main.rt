@@ -5,16 +5,19 @@
 ghost use Rattle.std.specs.Prelude.{◌≡◌, ◌+◌, ◌*◌, ◌≤◌, length};
 ghost use Rattle.field.specs.Bits.{field_at};
 
-use evaluate::Answer;
-use std::io;
+use evaluate::Accepted;
+use reader::Reader;
+use records::Records;
 use std::io::{Eprint, Print, Read, Stderr, Stdin, Stdout};
+use std::{fmt, io};
+use theory::Refusal;
 
 // The number in four bytes from `at` on, most significant first.
 fn word(input: &[u8], at: usize) -> u32
     requires { (at ≤ 4) × (at + 4 ≤ length input.now) }
     ensures { result ≡ field_at input.now (8 * at) 32 }
 {
-    reader::one(input, 8 * at, 32)
+    Reader::new(input, 8 * at).take(32)
 }
 
 // Reads once, and answers how many bytes it put at the start of the buffer. A failed read counts as the input's end.
@@ -24,7 +27,8 @@ fn read_some(mut from: Stdin, buffer: &mut [u8]) -> usize
     from.read(buffer).unwrap_or(0)
 }
 
-// Reads until the buffer is full or the input ends, and answers how many bytes it put at the start of the buffer.
+// Reads until the buffer is full or the input ends, and answers how many bytes it put at the start of the buffer. A loop: std's `read_exact`
+// does not say how many where the input ends early.
 fn read_full(from: Stdin, buffer: &mut [u8]) -> usize
     ensures { result ≤ length buffer.new }
 {
@@ -47,50 +51,52 @@ fn skip_some(from: Stdin) -> bool {
 
 // Reads the input to its end, so that a writer of a pipe can finish.
 fn skip_rest(from: Stdin) {
-    let mut left = u64::MAX;
-    while 0 < left && skip_some(from) {
-        left -= 1;
+    for _ in 0..u64::MAX {
+        if !skip_some(from) {
+            break;
+        }
     }
 }
 
-// Each function that prints stops at the first failed write, and hands its error on.
-fn print_answer(out: Stdout, a: Answer) -> io::Result<()> {
-    print!(out; "answer {} total {} belief {}", a.number, a.total, a.belief)?;
-    println!(out;
-        " plausibility {} pairs {} intervals {}",
-        a.plausibility, a.pairs, a.intervals
-    )
+// What is printed of a call: its answer, a refusal's number and zeros, and the list in the store. It stops at the first failed write.
+#[derive(Clone, Copy)]
+struct Report<'a> {
+    answer: Result<Accepted, Refusal>,
+    list: Records<'a>,
 }
 
-// Prints the record at `at`: low, high and weight.
-fn print_record(out: Stdout, store: &[u8], at: usize) -> io::Result<()>
-    requires { at + 12 ≤ length store.now }
-{
-    let low = numbers::read_number(store, at, 2);
-    let high = numbers::read_number(store, at + 2, 2);
-    let weight = numbers::read_number(store, at + 4, 8);
-    println!(out; "{low} {high} {weight}")
-}
-
-// Prints the first `count` records, all of which lie in the store.
-fn print_list(out: Stdout, store: &[u8], count: u64) -> io::Result<()> {
-    let mut at = 0;
-    let mut left = count;
-    while 0 < left && at + theory::RECORD_BYTES <= store.len() {
-        print_record(out, store, at)?;
-        at += theory::RECORD_BYTES;
-        left -= 1;
+impl<'a> Report<'a> {
+    // No clause of `evaluate::bounds` says that the list lies within the store, so the count is at most what fits it.
+    fn new(answer: Result<Accepted, Refusal>, store: &'a [u8]) -> Report<'a> {
+        let most = store.len() / theory::RECORD_BYTES;
+        let count = answer.map_or(0, |a| a.intervals.min(most as u64)) as usize;
+        Report {
+            answer,
+            list: Records::new(store, count),
+        }
     }
-    Ok(())
 }
 
-fn print_all(out: Stdout, a: Answer, store: &[u8]) -> io::Result<()> {
-    print_answer(out, a)?;
-    print_list(out, store, a.intervals)
+impl<'a> fmt::Display for Report<'a> {
+    fn fmt<W: fmt::Write>(&self, f: &mut fmt::Formatter<W>) -> fmt::Result {
+        let number = theory::number_in(self.answer);
+        let a = self.answer.unwrap_or_default();
+        write!(f, "answer {number} total {} belief {}", a.total, a.belief)?;
+        writeln!(
+            f,
+            " plausibility {} pairs {} intervals {}",
+            a.plausibility, a.pairs, a.intervals
+        )?;
+        for i in 0..self.list.count {
+            let focal = self.list.get(i);
+            writeln!(f, "{} {} {}", focal.low, focal.high, focal.weight)?;
+        }
+        Ok(())
+    }
 }
 
 // Says on standard error that the output could not be written, where it could not.
-fn report(to: Stderr, written: io::Result<()>) {
+fn warn(to: Stderr, written: io::Result<()>) {
     if written.is_err() {
         let _ = eprintln!(to; "bounds: the output could not be written");
     }
@@ -102,7 +108,7 @@ fn main(rt: HostRuntime) {
     let mut input = [0u8; 264];
     let n = read_full(rt.stdin(), &mut input);
     if n < 8 {
-        report(rt.stderr(), println!(out; "input short"));
+        warn(rt.stderr(), println!(out; "input short"));
         return;
     }
     if n == 264 {
@@ -111,6 +117,7 @@ fn main(rt: HostRuntime) {
     let demand = word(&input, 0);
     let allowance = word(&input, 4);
     let mut store = [0u8; theory::STORE_BYTES];
-    let a = evaluate::bounds(&input[8..n], demand, allowance, &mut store);
-    report(rt.stderr(), print_all(out, a, &store));
+    let answer = evaluate::bounds(&input[8..n], demand, allowance, &mut store);
+    let report = Report::new(answer, &store);
+    warn(rt.stderr(), print!(out; "{report}"));
 }

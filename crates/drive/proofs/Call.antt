@@ -9,7 +9,7 @@ use borrow.Author.Tests.{lt-ltb, le-ltb}
 use Rattle.numbers.specs.Numbers.{big_endian}
 use Rattle.numbers.proofs.Numbers.{length-big_endian, read_front, read_behind}
 use Rattle.plan.specs.Tests.{First, here}
-use Rattle.evaluate.specs.declared.Answer.{Answer}
+use Rattle.evaluate.specs.Answer.{Answer}
 use Rattle.evaluate.specs.Answer.{call_tests, answer}
 use Rattle.evaluate.specs.Store.{store_after}
 use Rattle.evaluate.specs.Demands.{by_test}

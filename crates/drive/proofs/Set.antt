@@ -8,7 +8,7 @@ use borrow.Author.Tests.{lt-ltb, le-ltb}
 use Rattle.numbers.specs.Numbers.{big_endian}
 use Rattle.numbers.proofs.Numbers.{length-big_endian, read_front, read_behind}
 use Rattle.plan.proofs.Numbers.{first_in_front}
-use Rattle.evaluate.specs.declared.SheetRun.{SheetRun}
+use Rattle.evaluate.specs.SheetRun.{SheetRun}
 use Rattle.evaluate.specs.Set.{set_answer, set_store_after, shares_after}
 use Rattle.evaluate.specs.Demands.{by_test}
 use Rattle.evaluate.proofs.SetMet.{set_met, set_answer_fits}

@@ -9,7 +9,7 @@ use borrow.Author.Tests.{lt-ltb, le-ltb}
 use Rattle.numbers.specs.Numbers.{big_endian}
 use Rattle.numbers.proofs.Numbers.{length-big_endian, read_front, read_past}
 use Rattle.plan.proofs.Numbers.{first_in_front}
-use Rattle.evaluate.specs.declared.SpeedAnswer.{SpeedAnswer}
+use Rattle.evaluate.specs.Speed.{SpeedAnswer}
 use Rattle.evaluate.specs.Speed.{speed_answer, speed_store_after}
 use Rattle.evaluate.specs.Demands.{by_test}
 use Rattle.evaluate.proofs.SpeedMet.{speed_met, speed_answer_fits}

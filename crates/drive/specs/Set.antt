@@ -1,7 +1,7 @@
 -- The call for a set of demands for C hosts: the demands as bytes, the shares into a buffer of their own. Assumes nothing.
 use Rattle.std.specs.Prelude.{ℕ, ◌^◌, ◌≤◌, ◌<◌, ◌≡◌, List, ◌++◌, length, drop}
 use Rattle.numbers.specs.Numbers.{big_endian, number_at}
-use Rattle.evaluate.specs.declared.SheetRun.{SheetRun}
+use Rattle.evaluate.specs.SheetRun.{SheetRun}
 use Rattle.evaluate.specs.Set.{set_answer, set_store_after, shares_after}
 use Rattle.wire.specs.Demands.{demands_in}
 use Rattle.drive.specs.Call.{room, lent_by, answers_by, TooShort}

@@ -1,14 +1,16 @@
-// The calls, the writer and the reader for C hosts, on numbers and byte slices: what drive_c exports. The header host/drive.h is the
-// manual.
+// The calls, the writer and the reader for C hosts, on numbers and byte slices: what drive_c exports, so each answers a number and takes its
+// buffers one by one. The header host/drive.h is the manual.
 #![tactic(auto)]
 
-ghost use Rattle.std.specs.Prelude.{◌≡◌, ◌++◌, ◌≤◌, length, drop};
-ghost use Rattle.drive.specs.Call.{answer_bytes, encode_answer, number_returned, list_after, answer_after};
-ghost use Rattle.drive.specs.Speed.{speed_answer_bytes, encode_speed_answer, speed_number, speed_list_after, speed_answer_after};
-ghost use Rattle.drive.specs.Set.{set_answer_bytes, encode_set_answer, set_number, set_list_after, set_shares_after, set_answer_after};
+ghost use Rattle.std.specs.Prelude.{◌≡◌, ◌*◌, ◌++◌, ◌≤◌, length, drop};
+ghost use Rattle.theory.specs.Sums.{for_each};
+ghost use Rattle.numbers.specs.Numbers.{big_endian};
+ghost use Rattle.drive.specs.Call.{number_returned, list_after, answer_after};
+ghost use Rattle.drive.specs.Speed.{speed_number, speed_list_after, speed_answer_after};
+ghost use Rattle.drive.specs.Set.{set_number, set_list_after, set_shares_after, set_answer_after};
 ghost use Rattle.sheets.specs.Sheets.{write_number, sheet_after, length_after, read_number, plan_after};
 
-use evaluate::{Answer, SheetRun, SpeedAnswer};
+use theory::MOST_DEMANDS;
 
 // The bytes that an answer takes, those of an answer with a speed, and those of the answer beside the shares of a set.
 const ANSWER_BYTES: usize = 40;
@@ -17,16 +19,14 @@ const SPEED_ANSWER_BYTES: usize = 48;
 
 const SET_ANSWER_BYTES: usize = 24;
 
-// Writes an answer at the front of a buffer that holds it.
-fn put_answer(a: Answer, buffer: &mut [u8])
-    requires { answer_bytes ≤ length buffer.old }
-    ensures { buffer.new ≡ encode_answer a ++ drop answer_bytes buffer.old }
+// Writes numbers of 8 bytes each at the front of a buffer that holds them. (Crate wire writes numbers of 16 bits, each its own value, in 2.)
+fn put_numbers(ns: &[u64], buffer: &mut [u8])
+    requires { 8 * length ns.now ≤ length buffer.old }
+    ensures { buffer.new ≡ for_each ns.now (big_endian 8) ++ drop (8 * length ns.now) buffer.old }
 {
-    numbers::write_number(buffer, 0, 8, a.total);
-    numbers::write_number(buffer, 8, 8, a.belief);
-    numbers::write_number(buffer, 16, 8, a.plausibility);
-    numbers::write_number(buffer, 24, 8, a.pairs);
-    numbers::write_number(buffer, 32, 8, a.intervals);
+    for (i, n) in ns.iter().enumerate() {
+        numbers::write_number(buffer, 8 * i, 8, *n);
+    }
 }
 
 // Returns the number. The answer goes to the front of `answer`, the drive's list to the front of `list`.
@@ -42,22 +42,16 @@ pub fn drive_bounds(
     ensures answer_after { answer.new ≡ answer_after sheet.now demand allowance list.old answer.old }
 {
     if answer.len() < ANSWER_BYTES {
-        let a = evaluate::bounds(sheet, demand, allowance, &mut list[0..0]);
-        return a.number as u32;
+        let refused = evaluate::bounds(sheet, demand, allowance, &mut list[0..0]);
+        return theory::number_in(refused);
     }
-    let a = evaluate::bounds(sheet, demand, allowance, list);
-    put_answer(a, answer);
-    a.number as u32
-}
-
-// Writes an answer and its speed at the front of a buffer that holds them.
-fn put_speed_answer(p: SpeedAnswer, buffer: &mut [u8])
-    requires { speed_answer_bytes ≤ length buffer.old }
-    ensures { buffer.new ≡ encode_speed_answer p ++ drop speed_answer_bytes buffer.old }
-{
-    let a = p.answer;
-    put_answer(a, buffer);
-    numbers::write_number(buffer, ANSWER_BYTES, 8, p.speed);
+    let answered = evaluate::bounds(sheet, demand, allowance, list);
+    let a = answered.unwrap_or_default();
+    put_numbers(
+        &[a.total, a.belief, a.plausibility, a.pairs, a.intervals],
+        answer,
+    );
+    theory::number_in(answered)
 }
 
 // Returns the number. The answer and its speed go to the front of `answer`, the drive's list to the front of `list`.
@@ -73,22 +67,24 @@ pub fn drive_speed(
     ensures answer_after { answer.new ≡ speed_answer_after sheet.now target allowance list.old answer.old }
 {
     if answer.len() < SPEED_ANSWER_BYTES {
-        let p = evaluate::speed(sheet, target, allowance, &mut list[0..0]);
-        return p.answer.number as u32;
+        let refused = evaluate::speed(sheet, target, allowance, &mut list[0..0]);
+        return theory::number_in(refused);
     }
-    let p = evaluate::speed(sheet, target, allowance, list);
-    put_speed_answer(p, answer);
-    p.answer.number as u32
-}
-
-// Writes what a call for a set answers beside the shares at the front of a buffer that holds it.
-fn put_set_answer(r: SheetRun, buffer: &mut [u8])
-    requires { set_answer_bytes ≤ length buffer.old }
-    ensures { buffer.new ≡ encode_set_answer r ++ drop set_answer_bytes buffer.old }
-{
-    numbers::write_number(buffer, 0, 8, r.total);
-    numbers::write_number(buffer, 8, 8, r.pairs);
-    numbers::write_number(buffer, 16, 8, r.intervals as u64);
+    let answered = evaluate::speed(sheet, target, allowance, list);
+    let s = answered.unwrap_or_default();
+    let a = s.answer;
+    put_numbers(
+        &[
+            a.total,
+            a.belief,
+            a.plausibility,
+            a.pairs,
+            a.intervals,
+            s.speed,
+        ],
+        answer,
+    );
+    theory::number_in(answered)
 }
 
 // Returns the number. The shares at each demand go to the front of `shares`, the other answers to the front of `answer`, the drive's list to
@@ -106,22 +102,22 @@ pub fn drive_set(
     ensures shares_after { shares.new ≡ set_shares_after sheet.now demands.now allowance list.old shares.old answer.old }
     ensures answer_after { answer.new ≡ set_answer_after sheet.now demands.now allowance list.old shares.old answer.old }
 {
-    let d = wire::decode_demands(demands);
-    let values = d.values;
-    let n = d.count;
+    let mut room = [0u32; MOST_DEMANDS];
+    let demands = wire::decode_demands(demands, &mut room);
     if answer.len() < SET_ANSWER_BYTES {
-        let r = evaluate::set(
+        let refused = evaluate::set(
             sheet,
-            &values[0..n],
+            demands,
             allowance,
             &mut list[0..0],
             &mut shares[0..0],
         );
-        return r.number as u32;
+        return theory::number_in(refused);
     }
-    let r = evaluate::set(sheet, &values[0..n], allowance, list, shares);
-    put_set_answer(r, answer);
-    r.number as u32
+    let answered = evaluate::set(sheet, demands, allowance, list, shares);
+    let r = answered.unwrap_or_default();
+    put_numbers(&[r.total, r.pairs, r.intervals as u64], answer);
+    theory::number_in(answered)
 }
 
 // Returns the number. The sheet of the plan goes to the front of `sheet`, its length to the front of `answer`.

@@ -1,5 +1,5 @@
-// What makers link: the calls, the writer and the reader of crate drive under their C names, and nothing else. The header host/drive.h is
-// the manual.
+// What makers link: the calls, the writer and the reader of crate drive under their C names, and nothing else: a crate is a library or what C
+// links, and an archive has the C names of its own crate only. The header host/drive.h is the manual.
 #![tactic(auto)]
 
 ghost use Rattle.std.specs.Prelude.{◌≡◌};

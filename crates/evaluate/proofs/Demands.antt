@@ -17,11 +17,12 @@ use Rattle.theory.specs.Evaluation.{Evaluation, completed, refused}
 use Rattle.theory.specs.Limits.{most_total, most_components}
 use Rattle.theory.specs.Sums.{Every}
 use Rattle.theory.specs.Masses.{total}
-use Rattle.theory.specs.Focal.{Focal, weights, InRange, Positive}
+use Rattle.theory.specs.Focal.{weights, InRange, Positive}
+use Rattle.theory.specs.declared.Focal.{Focal}
 use Rattle.theory.specs.Choices.{belief, plausibility}
 use Rattle.theory.specs.Lists.{outcomes_of}
 use Rattle.theory.specs.Bounds.{Bounds}
-use Rattle.theory.proofs.Every.{every_map, every_all}
+use Rattle.theory.proofs.Every.{every_map, every_all, every_split}
 use Rattle.theory.proofs.Masses.{length-masses, rest_added}
 use Rattle.theory.proofs.Steps.{positive_outcomes_of}
 use Rattle.theory.proofs.Collect.{order_collect, positive_collect, where_le, where_none, share_antitone, weight_at-collect, belief-collect, plausibility-collect}
@@ -39,11 +40,9 @@ use Rattle.writing.proofs.Accepted.{written_accepted, written_refused_by}
 use Rattle.writing.proofs.Theorems.{written_longest, written_is_read, read_is_written, nothing_written, rest_kept}
 use Rattle.run.specs.Run.{needed, cleared}
 use Rattle.plan.proofs.Entries.{components_count}
-use Rattle.evaluate.specs.declared.Answer.{Answer}
-use Rattle.evaluate.specs.declared.SheetRun.{SheetRun}
-use Rattle.evaluate.specs.Answer.{plan_of, components, structure, sheet_outcomes, sheet_list, call_tests, evaluated, ending, refusal, answer_of}
+use Rattle.evaluate.specs.Answer.{Answer, plan_of, components, structure, sheet_outcomes, sheet_list, call_tests, evaluated, ending, refusal, answer_of}
+use Rattle.evaluate.specs.SheetRun.{SheetRun, refused_run, sheet_run_of, ending_at, without_shares}
 use Rattle.evaluate.specs.Store.{is_late, store_by, store_with, store_after}
-use Rattle.evaluate.specs.SheetRun.{refused_run, sheet_run_of, ending_at, without_shares}
 use Rattle.evaluate.specs.Demands.{Passed, Broken, by_test, by_join, answer_at, answered, Demand-1, Demand-2, Demand-3, DemandsMet, Writer, RoundTrips}
 use Rattle.evaluate.proofs.Numbers.{Numbered, call_numbered, number_then_is, Ended, tested, stopped, passed, ended, answer_is, store_is}
 use Rattle.evaluate.proofs.Finish.{WithinAllowance, completes, within, leaves_by, drive_fits, drive_storable, late, above, ready}
@@ -65,6 +64,10 @@ bounds_of e p q b = record {
 abbrev pub end_number : Evaluation Tree → ℕ
 end_number (refused k) = k
 end_number (completed stack pairs) = 0
+
+pub refused_end : (k : ℕ) → 0 < k → (v : Evaluation Tree) → end_number v ≡ k → v ≡ refused k
+refused_end k h (refused n) e = ap refused e
+refused_end k h (completed stack pairs) e = absurd (omega arith)
 
 module _ (tests : List Test) (s : List ℕ) (allowance : ℕ) (store : List ℕ) where
   abbrev number : ℕ
@@ -124,51 +127,25 @@ module _ (tests : List Test) (s : List ℕ) (allowance : ℕ) (store : List ℕ)
         store_kept = λ k h i j e. stored ∙ store_kept ns k h i j ends (sym number_is ∙ e);
       }
 
--- The tests of a call, and behind them its own.
-module _ (s : List ℕ) (allowance : ℕ) (store : List ℕ) (own : List Test) where
-  abbrev first_tests : List Test
-  first_tests = call_tests s (length store)
-
-  -- A number that only its own tests have says that none before them is broken, and theirs is.
-  pub number-own : {n : ℕ} {after : List ℕ} → Demand-1 (first_tests ++ own) s allowance n store after
-      → (k : ℕ) → 0 < k → is_late k ≡ false → any_of (λ t. eqb t.number k) first_tests ≡ false → (n ≡ k) ↔ (Every Unbroken first_tests × (first_broken own ≡ k))
-  number-own d k h l e =
-      (λ m. found ((d.refused_by k h).0 m), λ (u, f). (d.refused_by k h).1 (by_test (first_behind u ((refused_by own k h).0 f))))
-    where
-      go : (j : ℕ) → first_broken first_tests ≡ j → cond (eqb j 0) (first_broken own) j ≡ k → Every Unbroken first_tests × (first_broken own ≡ k)
-      go zero z q = ((call_numbered s (length store)).kept z, q)
-      go (suc j) z q =
-          let m : suc j ≡ k = rw (ne_eqb (suc j) 0 (λ z. omega arith)) at q in
-          absurd (false≢true (sym (number_never (λ n. eqb n k) (ne_eqb 0 k (λ z. omega arith)) first_tests e) ∙ eq-eqb _ k (z ∙ m)))
-
-      found : Broken (first_tests ++ own) s allowance k → Every Unbroken first_tests × (first_broken own ≡ k)
-      found (by_join u m q) = absurd (false≢true (sym l ∙ late k m))
-      found (by_test f) = go (first_broken first_tests) refl (number_then_is s (length store) own ∙ (refused_by (first_tests ++ own) k h).1 f)
-
-  -- Where the number is none of theirs, the tests have the number of an ordinary call's.
-  pub same_number : {n : ℕ} → n ≡ end_number (ending (first_tests ++ own) s allowance) → ((k : ℕ) → 0 < k → first_broken own ≡ k → n ≡ k → ⊥)
-      → first_broken (first_tests ++ own) ≡ first_broken first_tests
-  same_number {n} number_is h = sym (number_then_is s (length store) own) ∙ go (first_broken first_tests) refl (first_broken own) refl
-    where
-      go : (j : ℕ) → first_broken first_tests ≡ j → (k : ℕ) → first_broken own ≡ k → cond (eqb j 0) k j ≡ j
-      go (suc j) e k f = rw (ne_eqb (suc j) 0 (λ z. omega arith))
-      go zero e zero f = refl
-      go zero e (suc k) f =
-          let b : first_broken (first_tests ++ own) ≡ suc k = sym (number_then_is s (length store) own) ∙ rw (e, f) in
-          absurd (h (suc k) (omega arith) f (number_is ∙ ap (λ (m : ℕ). end_number (ending_at m s allowance)) b))
-
 -- ---- demands 2 and 3, for every accepted call
 
--- What is known of one: no test that every call has is broken; the run; what is answered and left.
-pub record Accepted (s : List ℕ) (allowance : ℕ) (store : List ℕ) (r : SheetRun) (after : List ℕ) : Type 0 where
-  pub unbroken : Every Unbroken (call_tests s (length store))
-  pub stack : List Tree
-  pub pairs : ℕ
-  pub runs : evaluated s allowance ≡ completed stack pairs
-  pub answer_is_run : r ≡ sheet_run_of (completed stack pairs) s
-  pub stored : after ≡ settled (needed (plan_of s)) (sheet_list s) store
+-- A call on a sheet has its own tests behind the others.
+module _ (s : List ℕ) (allowance : ℕ) (store : List ℕ) (own : List Test) where
+  abbrev pub end_of : Evaluation Tree
+  end_of = ending (call_tests s (length store) ++ own) s allowance
 
-module _ {s : List ℕ} {allowance : ℕ} {store : List ℕ} {r : SheetRun} {after : List ℕ} (a : Accepted s allowance store r after) where
+  -- What is known of an accepted one: no test is broken; the run; what is answered beside the shares and left.
+  pub record AcceptedCall (r : SheetRun) (after : List ℕ) : Type 0 where
+    pub unbroken : Every Unbroken (call_tests s (length store))
+    pub own_unbroken : Every Unbroken own
+    pub stack : List Tree
+    pub pairs : ℕ
+    pub runs : evaluated s allowance ≡ completed stack pairs
+    pub ends : end_of ≡ completed stack pairs
+    pub answer_is_run : r ≡ sheet_run_of (completed stack pairs) s
+    pub stored : after ≡ settled (needed (plan_of s)) (sheet_list s) store
+
+module _ {s : List ℕ} {allowance : ℕ} {store : List ℕ} {own : List Test} {r : SheetRun} {after : List ℕ} (a : AcceptedCall s allowance store own r after) where
   pub valid : Valid (plan_of s)
   valid = (ready s store (none_broken a.unbroken)).valid
 
@@ -227,62 +204,131 @@ module _ {s : List ℕ} {allowance : ℕ} {store : List ℕ} {r : SheetRun} {aft
     pub demand_3_of : Demand-3 s r demand_at belief_at plausibility_at
     demand_3_of = bounds_of (sym total_is) (λ i. sym (b i)) (λ i. sym (p i)) (bounds (structure s) valid.in_range demand_at)
 
--- ---- the call at a demand
+-- ---- a call past tests and run, its own tests behind the others
 
--- Its number, and its answer without the shares, by what it ends in; a refusal has zeros.
-pub number_by : (v : Evaluation Tree) (s : List ℕ) (d : ℕ) → (answer_of v (structure s) (components s) d).number ≡ end_number v
-number_by (refused k) s d = refl
-number_by (completed stack pairs) s d = refl
+number_by : (v : Evaluation Tree) (s : List ℕ) → (sheet_run_of v s).number ≡ end_number v
+number_by (refused k) s = refl
+number_by (completed stack pairs) s = refl
 
+module _ (s : List ℕ) (allowance : ℕ) (store : List ℕ) (own : List Test) where
+  abbrev first_tests : List Test
+  first_tests = call_tests s (length store)
+
+  abbrev tests : List Test
+  tests = first_tests ++ own
+
+  abbrev ends_in : Evaluation Tree
+  ends_in = end_of s allowance store own
+
+  -- What is answered beside the shares, and the store that is left.
+  pub record Called (r : SheetRun) (after : List ℕ) : Type 0 where
+    pub numbers : Numbered tests
+    pub run_is : r ≡ sheet_run_of ends_in s
+    pub stored : after ≡ store_with tests s allowance store
+
+  module _ {r : SheetRun} {after : List ℕ} (c : Called r after) where
+    number_is : r.number ≡ end_number ends_in
+    number_is = ap (λ (x : SheetRun). x.number) c.run_is ∙ number_by ends_in s
+
+    pub first_of : Demand-1 tests s allowance r.number store after
+    first_of = demand_1_of tests s allowance store c.numbers number_is c.stored
+
+    pub refuses : (k : ℕ) → 0 < k → r.number ≡ k → ends_in ≡ refused k
+    refuses k h e = refused_end k h ends_in (sym number_is ∙ e)
+
+    pub accepts : r.number ≡ 0 → AcceptedCall s allowance store own r after
+    accepts e =
+        let pass : Passed tests s allowance = first_of.accepted.0 e in
+        let kept = every_split first_tests pass.unbroken in
+        let ends : ends_in ≡ completed pass.stack pass.pairs = passes tests s allowance store pass in
+        record {
+          unbroken = kept.0;
+          own_unbroken = kept.1;
+          stack = pass.stack;
+          pairs = pass.pairs;
+          runs = pass.runs;
+          ends = ends;
+          answer_is_run = c.run_is ∙ ap (λ (v : Evaluation Tree). sheet_run_of v s) ends;
+          stored = first_of.store_accepted e;
+        }
+
+    -- A number that only its own tests have says that none before them is broken, and theirs is.
+    pub number-own : (k : ℕ) → 0 < k → is_late k ≡ false → any_of (λ t. eqb t.number k) first_tests ≡ false → (r.number ≡ k) ↔ (Every Unbroken first_tests × (first_broken own ≡ k))
+    number-own k h l e =
+        (λ m. found ((first_of.refused_by k h).0 m), λ (u, f). (first_of.refused_by k h).1 (by_test (first_behind u ((refused_by own k h).0 f))))
+      where
+        go : (j : ℕ) → first_broken first_tests ≡ j → cond (eqb j 0) (first_broken own) j ≡ k → Every Unbroken first_tests × (first_broken own ≡ k)
+        go zero z q = ((call_numbered s (length store)).kept z, q)
+        go (suc j) z q =
+            let m : suc j ≡ k = rw (ne_eqb (suc j) 0 (λ z. omega arith)) at q in
+            absurd (false≢true (sym (number_never (λ n. eqb n k) (ne_eqb 0 k (λ z. omega arith)) first_tests e) ∙ eq-eqb _ k (z ∙ m)))
+
+        found : Broken tests s allowance k → Every Unbroken first_tests × (first_broken own ≡ k)
+        found (by_join u m q) = absurd (false≢true (sym l ∙ late k m))
+        found (by_test f) = go (first_broken first_tests) refl (number_then_is s (length store) own ∙ (refused_by tests k h).1 f)
+
+    -- Where the number is none of theirs, the tests have the number of an ordinary call's.
+    pub same_number : ((k : ℕ) → 0 < k → first_broken own ≡ k → r.number ≡ k → ⊥) → first_broken tests ≡ first_broken first_tests
+    same_number h = sym (number_then_is s (length store) own) ∙ go (first_broken first_tests) refl (first_broken own) refl
+      where
+        go : (j : ℕ) → first_broken first_tests ≡ j → (k : ℕ) → first_broken own ≡ k → cond (eqb j 0) k j ≡ j
+        go (suc j) e k f = rw (ne_eqb (suc j) 0 (λ z. omega arith))
+        go zero e zero f = refl
+        go zero e (suc k) f =
+            let b : first_broken tests ≡ suc k = sym (number_then_is s (length store) own) ∙ rw (e, f) in
+            absurd (h (suc k) (omega arith) f (number_is ∙ ap (λ (m : ℕ). end_number (ending_at m s allowance)) b))
+
+-- An answer without its shares is the same at any demand.
 pub run_by : (v : Evaluation Tree) (s : List ℕ) (d : ℕ) → without_shares (answer_of v (structure s) (components s) d) ≡ sheet_run_of v s
 run_by (refused k) s d = refl
 run_by (completed stack pairs) s d = refl
 
-pub zeros_by : (k : ℕ) → 0 < k → (v : Evaluation Tree) (s : List ℕ) (d : ℕ) → end_number v ≡ k → answer_of v (structure s) (components s) d ≡ refusal k
-zeros_by k h (refused n) s d e = ap refusal e
-zeros_by k h (completed stack pairs) s d e = absurd (omega arith)
-
+-- The ordinary call.
 module _ (s : List ℕ) (demand allowance : ℕ) (store : List ℕ) where
-  abbrev room : ℕ
-  room = length store
+  abbrev here : Answer
+  here = answered s demand allowance store
 
-  abbrev ends : Evaluation Tree
-  ends = ending (call_tests s room) s allowance
+  abbrev end_here : Evaluation Tree
+  end_here = end_of s allowance store []
 
-  number_is : (answered s demand allowance store).number ≡ end_number ends
-  number_is = ap (λ (a : Answer). a.number) (answer_is s demand allowance room) ∙ number_by ends s demand
+  pub answer_by : (d : ℕ) {v : Evaluation Tree} → end_here ≡ v → answer_at s demand allowance store d ≡ answer_of v (structure s) (components s) d
+  answer_by d e = answer_is s d allowance (length store) ∙ ap (λ (v : Evaluation Tree). answer_of v (structure s) (components s) d) e
 
-  pub demand_1 : Demand-1 (call_tests s room) s allowance (answered s demand allowance store).number store (store_after s allowance store)
-  demand_1 = demand_1_of (call_tests s room) s allowance store (call_numbered s room) number_is (store_is s allowance store)
+  called : Called s allowance store [] (without_shares here) (store_after s allowance store)
+  called = record {
+    numbers = call_numbered s (length store);
+    run_is = ap without_shares (answer_by demand refl) ∙ run_by end_here s demand;
+    stored = store_is s allowance store;
+  }
 
-  pub zeros : (k : ℕ) → 0 < k → (answered s demand allowance store).number ≡ k → answered s demand allowance store ≡ refusal k
-  zeros k h e = answer_is s demand allowance room ∙ zeros_by k h ends s demand (sym number_is ∙ e)
+  pub demand_1 : Demand-1 (call_tests s (length store)) s allowance here.number store (store_after s allowance store)
+  demand_1 = first_of s allowance store [] called
 
-  -- An accepted call.
-  module _ (e : (answered s demand allowance store).number ≡ 0) where
-    pass : Passed (call_tests s room) s allowance
-    pass = demand_1.accepted.0 e
+  pub zeros : (k : ℕ) → 0 < k → here.number ≡ k → here ≡ refusal k
+  zeros k h e = answer_by demand (refuses s allowance store [] called k h e)
 
-    answer_by : (d : ℕ) → answer_at s demand allowance store d ≡ answer_of (completed pass.stack pass.pairs) (structure s) (components s) d
-    answer_by d = answer_is s d allowance room ∙ ap (λ (v : Evaluation Tree). answer_of v (structure s) (components s) d) (passes (call_tests s room) s allowance store pass)
+  -- Accepted.
+  module _ (e : here.number ≡ 0) where
+    abbrev belief_here : ℕ → ℕ
+    belief_here d = (answer_at s demand allowance store d).belief
 
-    accepts : Accepted s allowance store (without_shares (answered s demand allowance store)) (store_after s allowance store)
-    accepts = record {
-      unbroken = pass.unbroken;
-      stack = pass.stack;
-      pairs = pass.pairs;
-      runs = pass.runs;
-      answer_is_run = ap without_shares (answer_by demand);
-      stored = demand_1.store_accepted e;
-    }
+    abbrev plausibility_here : ℕ → ℕ
+    plausibility_here d = (answer_at s demand allowance store d).plausibility
 
-    pub demand_2 : Demand-2 s allowance (without_shares (answered s demand allowance store)) (store_after s allowance store) (λ d. d)
-        (λ d. (answer_at s demand allowance store d).belief) (λ d. (answer_at s demand allowance store d).plausibility)
-    demand_2 = demand_2_of accepts (λ d. ap (λ (x : Answer). x.belief) (answer_by d)) (λ d. ap (λ (x : Answer). x.plausibility) (answer_by d))
+    accepted_here : AcceptedCall s allowance store [] (without_shares here) (store_after s allowance store)
+    accepted_here = accepts s allowance store [] called e
 
-    pub demand_3 : Demand-3 s (without_shares (answered s demand allowance store)) (λ d. d)
-        (λ d. (answer_at s demand allowance store d).belief) (λ d. (answer_at s demand allowance store d).plausibility)
-    demand_3 = demand_3_of accepts (λ d. ap (λ (x : Answer). x.belief) (answer_by d)) (λ d. ap (λ (x : Answer). x.plausibility) (answer_by d))
+    beliefs : (d : ℕ) → belief_here d ≡ belief d (sheet_outcomes s)
+    beliefs d = ap (λ (x : Answer). x.belief) (answer_by d accepted_here.ends)
+
+    plausibilities : (d : ℕ) → plausibility_here d ≡ plausibility d (sheet_outcomes s)
+    plausibilities d = ap (λ (x : Answer). x.plausibility) (answer_by d accepted_here.ends)
+
+    pub demand_2 : Demand-2 s allowance (without_shares here) (store_after s allowance store) (λ d. d) belief_here plausibility_here
+    demand_2 = demand_2_of accepted_here beliefs plausibilities
+
+    pub demand_3 : Demand-3 s (without_shares here) (λ d. d) belief_here plausibility_here
+    demand_3 = demand_3_of accepted_here beliefs plausibilities
 
   pub demands_met : DemandsMet s demand allowance store
   demands_met = record { first = demand_1; zeros = zeros; second = demand_2; third = demand_3 }

@@ -1,52 +1,46 @@
--- From the run of a plan to the answer of a call: the list that the run leaves is the drive's, and is read back from the store. Assumes nothing.
-use Prim.Native.Nat.{ℕ, zero, suc, ◌+◌, ◌*◌, ◌≤◌, ◌<◌}
+-- From the run of a plan to what tests and run answer: the list that the run leaves is the drive's. Assumes nothing.
+use Prim.Native.Nat.{ℕ, ◌+◌, ◌*◌, ◌≤◌, ◌<◌}
 use mathlib.Core.Path.{◌≡◌, refl, sym, ap, ◌∙◌}
 use mathlib.Core.Bool.{Bool, true, false, cond}
 use mathlib.Core.Logic.{◌⊎◌, inl, inr}
-use mathlib.Core.List.{List, [], ◌∷◌, ◌++◌, map}
+use mathlib.Core.List.{List, [], ◌∷◌, map}
 use native.Mathlib.Omega.{arith}
 use lib.Dec.{ltb}
-use lib.ListN.{length, drop, length-append}
+use lib.ListN.{length}
 use borrow.Author.Tests.{ltb-false}
+use Rattle.std.specs.Prelude.{Result, Ok, Err}
 use Rattle.theory.specs.Masses.{total}
-use Rattle.theory.specs.Focal.{Focal}
+use Rattle.theory.specs.declared.Focal.{Focal}
+use Rattle.theory.specs.declared.Refusal.{Refusal}
+use Rattle.theory.specs.Refusals.{refusal_number, number_in}
 use Rattle.theory.specs.declared.Component.{Component}
 use Rattle.theory.specs.declared.Entry.{Entry}
 use Rattle.theory.specs.declared.Entry.TheVariants.{Component as component, Join as join}
 use Rattle.theory.specs.Structure.{NamedOnce, Tree, leaf, node}
 use Rattle.theory.specs.Lists.{drive_list, list_of}
 use Rattle.theory.specs.Evaluation.{Evaluation, completed, refused, refuse_if, walk, evaluate}
-use Rattle.theory.specs.Limits.{most_intervals, record_bytes, thousandths}
+use Rattle.theory.specs.Limits.{most_intervals, thousandths}
+use Rattle.theory.specs.Sums.{Every}
 use Rattle.theory.proofs.Every.{every_map}
-use Rattle.theory.specs.Order.{InOrder}
-use Rattle.theory.proofs.Collect.{order_collect, belief-collect, plausibility-collect}
 use Rattle.theory.proofs.Method.{image, evaluate_lists, evaluate-refused, Leaves, method}
-use Rattle.theory.proofs.Totals.{Fits, fits_drive, total_positive}
-use Rattle.queries.specs.declared.Shares.{Shares}
-use Rattle.records.specs.Records.{records, Storable}
-use Rattle.queries.specs.Shares.{shares_of, shares_bytes, encode_shares, encode_set, demand_tests, Readable}
-use Rattle.queries.specs.Speed.{target_tests, ValidTarget}
-use Rattle.records.proofs.Records.{length-encode}
-use Rattle.records.specs.Store.{settled}
-use Rattle.records.proofs.Store.{settled_list}
+use Rattle.theory.proofs.Totals.{Fits, fits_drive}
 use Rattle.plan.specs.declared.Plan.{Plan}
-use Rattle.theory.specs.Sums.{for_each, Every}
 use Rattle.plan.specs.Tests.{first_broken, Unbroken}
-use Rattle.plan.proofs.Numbers.{no_number}
-use Rattle.plan.proofs.Tests.{within as within-bounds}
 use Rattle.plan.specs.Plan.{components_of, entries_of}
 use Rattle.plan.specs.Valid.{Valid}
-use Rattle.writing.proofs.Theorems.{read_valid}
-use Rattle.run.specs.declared.Ran.{Ran}
-use Rattle.run.specs.Run.{needed, walked, ran_of, store_of, Runnable}
+use Rattle.plan.proofs.Tests.{within as within-bounds}
 use Rattle.plan.proofs.Entries.{components_count}
+use Rattle.records.specs.Records.{Storable}
+use Rattle.queries.specs.Speed.{target_tests}
+use Rattle.writing.proofs.Theorems.{read_valid}
+use Rattle.run.specs.declared.Run.{Run}
+use Rattle.run.specs.Run.{Ran, needed, walked, ran_as, ran_of, store_of, Runnable}
 use Rattle.run.proofs.Stacked.{fits_record}
-use Rattle.evaluate.specs.declared.SheetRun.{SheetRun}
-use Rattle.evaluate.specs.Answer.{plan_of, components, structure, sheet_outcomes, sheet_list, call_tests, evaluated, answer_of}
+use Rattle.evaluate.specs.Answer.{plan_of, components, structure, sheet_list, call_tests}
 use Rattle.evaluate.specs.Store.{is_late, store_by}
-use Rattle.evaluate.specs.SheetRun.{number_then, refused_run, sheet_run_of, answer_from, ending_at, store_at, sheet_run, store_then}
-use Rattle.evaluate.specs.Set.{shares_by}
-use Rattle.evaluate.proofs.Numbers.{tests_say, number_passed, own_passed, number_early, Ended, tested, stopped, passed, ended}
+use Rattle.evaluate.specs.SheetRun.{number_then, refused_run, sheet_run_of, ending_at, sheet_run, store_then}
+use Rattle.theory.proofs.Refusals.{positive}
+use Rattle.evaluate.proofs.Numbers.{tests_say}
 
 -- ---- a completed evaluation has formed no more pairs than the allowance
 
@@ -110,10 +104,6 @@ module _ {p : Plan} (valid : Valid p) where
   pub drive_storable : Storable (drive_list es cs)
   drive_storable = fits_record drive_fits (omega (arith, components_count p, valid.most))
 
--- A list that a store holds takes its records' bytes.
-settled_room : (size : ℕ) (l : List Focal) (s : List ℕ) → record_bytes * length l ≤ length (settled size l s)
-settled_room size l s = simp length-append (omega (arith, length-encode l))
-
 -- 13 and 14 are late.
 pub late : (k : ℕ) → (k ≡ 13) ⊎ (k ≡ 14) → is_late k ≡ true
 late k (inl e) = rw e
@@ -128,163 +118,40 @@ above k (inr e) = omega arith
 pub ready : (s store : List ℕ) → first_broken (call_tests s (length store)) ≡ 0 → Runnable (plan_of s) store
 ready s store z = let say = tests_say s (length store) z in record { valid = read_valid s say.0; enough = say.1 }
 
--- Tests and run, by the number of the call's own tests.
-module _ (s : List ℕ) (own allowance : ℕ) (store : List ℕ) where
-  abbrev pub number : ℕ
-  number = number_then s (length store) own
+-- Past the tests, the run decides.
+module _ (s : List ℕ) (allowance : ℕ) (store : List ℕ) {p : Plan} (z : 0 ≡ first_broken (call_tests s (length store))) (plan_is : p ≡ plan_of s) where
+  pub runnable : Runnable p store
+  runnable = rw plan_is (ready s store (sym z))
 
-  abbrev pub end : Evaluation Tree
-  end = ending_at number s allowance
+  module _ {own : Result (Unit {0}) Refusal} (o : own ≡ Ok (tt {0})) where
+    ends : RunEnds (components s) (structure s) (walked p allowance) (ending_at (number_then s (length store) (number_in own)) s allowance)
+    ends = rw (o, ← z, plan_is) (run_ends (ready s store (sym z)).valid allowance)
 
-  -- A call that a test refuses.
-  pub tested_call : is_late own ≡ false → (k : ℕ) → number ≡ k → (k ≡ 0 → ⊥) → (refused_run k ≡ sheet_run_of end s) × (store ≡ store_at number s allowance store)
-  tested_call h zero e z = absurd (z refl)
-  tested_call h (suc k) e z =
-      let w : end ≡ refused (suc k) = ap (λ (n : ℕ). ending_at n s allowance) e in
-      let m : is_late (suc k) ≡ false = ap is_late (sym e) ∙ number_early s (length store) own h in
-      (ap (λ (v : Evaluation Tree). sheet_run_of v s) (sym w), sym (ap (λ (v : Evaluation Tree). store_by v (needed (plan_of s)) (sheet_list s) store) w ∙ rw m))
+    pub run_refused : (r : Refusal) → ran_as (Err r) ≡ ran_of (walked p allowance) → refused_run (refusal_number r) ≡ sheet_run s (length store) (number_in own) allowance
+    run_refused r = go ends
+      where
+        go : {w : Evaluation (List Focal)} {v : Evaluation Tree} → RunEnds (components s) (structure s) w v
+            → ran_as (Err r) ≡ ran_of w → refused_run (refusal_number r) ≡ sheet_run_of v s
+        go (stops l) e = ap (λ (x : Ran). refused_run x.number) e
+        go (leaves_one l) e = absurd (omega (arith, positive r, ap (λ (x : Ran). x.number) e))
 
-  -- A call past the tests, by what the run answers and the store that it leaves.
-  pub record Finished (r : Ran) (x : List ℕ) : Type 0 where
-    pub stored : x ≡ store_at number s allowance store
-    pub refuses : (r.number ≡ 0 → ⊥) → refused_run r.number ≡ sheet_run_of end s
-    pub accepts : r.number ≡ 0 → (u : ℕ) → u ≡ total (components s)
-        → record { number = 0; total = u; pairs = r.pairs; intervals = r.intervals } ≡ sheet_run_of end s
+    pub run_accepted : {x : Run} → ran_as (Ok x) ≡ ran_of (walked p allowance) → {u : ℕ} → u ≡ total (components_of p)
+        → record { number = 0; total = u; pairs = x.pairs; intervals = x.intervals } ≡ sheet_run s (length store) (number_in own) allowance
+    run_accepted {x} e {u} f = go ends e (f ∙ ap (λ (q : Plan). total (components_of q)) plan_is)
+      where
+        go : {w : Evaluation (List Focal)} {v : Evaluation Tree} → RunEnds (components s) (structure s) w v
+            → ran_as (Ok x) ≡ ran_of w → u ≡ total (components s) → record { number = 0; total = u; pairs = x.pairs; intervals = x.intervals } ≡ sheet_run_of v s
+        go (stops {k = k} l) e f = absurd (omega (arith, above k l, ap (λ (y : Ran). y.number) e))
+        go (leaves_one l) e f = λ i. record { number = 0; total = f i; pairs = (e i).pairs; intervals = (e i).intervals }
 
-  pub finish : number ≡ 0 → (r : Ran) (x : List ℕ)
-      → r ≡ ran_of (walked (plan_of s) allowance) → x ≡ store_of (needed (plan_of s)) (walked (plan_of s) allowance) store → Finished r x
-  finish z r x e f = go (run_ends (ready s store (number_passed s (length store) own z)).valid allowance) refl e f
-    where
-      go : {w : Evaluation (List Focal)} {v : Evaluation Tree} → RunEnds (components s) (structure s) w v → evaluated s allowance ≡ v
-          → r ≡ ran_of w → x ≡ store_of (needed (plan_of s)) w store → Finished r x
-      go {w} {v} (stops {k = k} l) q e f =
-          let n : r.number ≡ k = ap (λ (y : Ran). y.number) e in
-          let u : end ≡ refused k = rw (z, q) in
-          record {
-            stored = f ∙ sym (ap (λ (t : Evaluation Tree). store_by t (needed (plan_of s)) (sheet_list s) store) u ∙ rw (late k l));
-            refuses = λ h. ap refused_run n ∙ sym (ap (λ (t : Evaluation Tree). sheet_run_of t s) u);
-            accepts = λ h. absurd (omega (arith, above k l));
-          }
-      go (leaves_one {stack = stack} {pairs = pairs} left_over) q e f =
-          let m : r.intervals ≡ length (sheet_list s) = ap (λ (y : Ran). y.intervals) e in
-          let u : end ≡ completed stack pairs = rw (z, q) in
-          record {
-            stored = f ∙ sym (ap (λ (t : Evaluation Tree). store_by t (needed (plan_of s)) (sheet_list s) store) u);
-            refuses = λ h. absurd (h (ap (λ (y : Ran). y.number) e));
-            accepts = λ h t t-is. (λ i. record { number = 0; total = t-is i; pairs = (e i).pairs; intervals = m i }) ∙ sym (ap (λ (v : Evaluation Tree). sheet_run_of v s) u);
-          }
-
--- ---- what is asked of the list
+    pub run_stored : store_of (needed p) (walked p allowance) store ≡ store_then s (number_in own) allowance store
+    run_stored = go ends
+      where
+        go : {w : Evaluation (List Focal)} {v : Evaluation Tree} → RunEnds (components s) (structure s) w v
+            → store_of (needed p) w store ≡ store_by v (needed (plan_of s)) (sheet_list s) store
+        go (stops {k = k} l) = rw (late k l)
+        go (leaves_one l) = refl
 
 -- A target whose test is not broken is 1 to 1,000.
 pub target_inside : {target : ℕ} → Every Unbroken (target_tests target) → (1 ≤ target) × (target ≤ thousandths)
 target_inside {target} (Every.more e r) = within-bounds 1 thousandths target e
-
--- The list that is asked: the drive's, or none.
-abbrev pub asked_list : Evaluation Tree → List ℕ → List Focal
-asked_list (refused k) s = []
-asked_list (completed stack pairs) s = sheet_list s
-
--- The list l is read from the store x.
-pub record ListRead (l : List Focal) (n : ℕ) (x : List ℕ) : Type 0 where
-  pub readable : Readable x n
-  pub list_is : records n x ≡ l
-  pub ordered : InOrder (records n x)
-
--- A refused call has no list.
-nothing : (r : SheetRun) (x : List ℕ) {k : ℕ} → r ≡ refused_run k → ListRead [] r.intervals x
-unfolding records
-nothing r x e =
-    let z : r.intervals ≡ 0 = ap (λ (y : SheetRun). y.intervals) e in
-    rw z (record { readable = record { room = omega arith; fits = omega arith }; list_is = refl; ordered = InOrder.none })
-
-module _ (s : List ℕ) (own allowance : ℕ) (store : List ℕ) where
-  list_read : (r : SheetRun) (x : List ℕ) → r ≡ sheet_run_of (end s own allowance store) s → x ≡ store_at (number s own allowance store) s allowance store
-      → ListRead (asked_list (end s own allowance store) s) r.intervals x
-  list_read r x e f = go (ended (number s own allowance store) s allowance) e f
-    where
-      go : {v : Evaluation Tree} → Ended (number s own allowance store) s allowance v → r ≡ sheet_run_of v s → x ≡ store_by v (needed (plan_of s)) (sheet_list s) store
-          → ListRead (asked_list v s) r.intervals x
-      go (tested h z) e f = nothing r x e
-      go (stopped z l q) e f = nothing r x e
-      go (passed z q) e f =
-          let m : r.intervals ≡ length (sheet_list s) = ap (λ (y : SheetRun). y.intervals) e in
-          let fits = drive_storable (ready s store (number_passed s (length store) own z)).valid in
-          let back : records r.intervals x ≡ sheet_list s = rw (m, f) (settled_list (needed (plan_of s)) store fits.0 fits.1) in
-          record {
-            readable = record { room = rw (m, f) (settled_room (needed (plan_of s)) (sheet_list s) store); fits = rw back fits.1 };
-            list_is = back;
-            ordered = rw back (order_collect (sheet_outcomes s));
-          }
-
-  -- What is known past tests and run: what they answered, the store, and the list in it.
-  pub record PastRun (r : SheetRun) (x : List ℕ) : Type 0 where
-    pub ran : r ≡ sheet_run_of (end s own allowance store) s
-    pub stored : x ≡ store_at (number s own allowance store) s allowance store
-    pub list : ListRead (asked_list (end s own allowance store) s) r.intervals x
-
-  pub past_run : {n : ℕ} → n ≡ own → (r : SheetRun) (x : List ℕ) → r ≡ sheet_run s (length store) n allowance → x ≡ store_then s n allowance store → PastRun r x
-  past_run {n} h r x e f =
-      let ran = e ∙ ap (λ (m : ℕ). sheet_run_of (end s m allowance store) s) h in
-      let stored = f ∙ ap (λ (m : ℕ). store_at (number s m allowance store) s allowance store) h in
-      record { ran = ran; stored = stored; list = list_read r x ran stored }
-
--- A list that is not empty is asked with a target of 1 to 1,000 and a total above 0.
-pub target_asked : (s : List ℕ) (target allowance : ℕ) (store : List ℕ) → let own : ℕ = first_broken (target_tests target) in
-    (r : SheetRun) → r ≡ sheet_run_of (end s own allowance store) s → 0 < r.intervals → ValidTarget target r.total
-target_asked s target allowance store r e h = go (ended (number s own allowance store) s allowance) e
-  where
-    own : ℕ
-    own = first_broken (target_tests target)
-
-    go : {v : Evaluation Tree} → Ended (number s own allowance store) s allowance v → r ≡ sheet_run_of v s → ValidTarget target r.total
-    go (tested k z) e = absurd (omega (arith, ap (λ (y : SheetRun). y.intervals) e))
-    go (stopped z l q) e = absurd (omega (arith, ap (λ (y : SheetRun). y.intervals) e))
-    go (passed z q) e =
-        let bounds = target_inside (no_number 16 (target_tests target) refl (own_passed s (length store) own z)) in
-        let valid = (ready s store (number_passed s (length store) own z)).valid in
-        let positive = total_positive (every_map (λ c t. t.0) valid.totals) in
-        record { least = bounds.0; most = bounds.1; total_positive = omega (arith, positive, ap (λ (y : SheetRun). y.total) e) }
-
--- A set of demands that passes its tests has room for its shares.
-pub shares_room : (s demands : List ℕ) (allowance : ℕ) (store shares : List ℕ) → let own : ℕ = first_broken (demand_tests (length demands) (length shares)) in
-    (r : SheetRun) → r ≡ sheet_run_of (end s own allowance store) s → r.number ≡ 0 → shares_bytes * length demands ≤ length shares
-shares_room s demands allowance store shares r e h = go (ended (number s own allowance store) s allowance) e
-  where
-    own : ℕ
-    own = first_broken (demand_tests (length demands) (length shares))
-
-    fits : Every Unbroken (demand_tests (length demands) (length shares)) → shares_bytes * length demands ≤ length shares
-    fits (Every.more e (Every.more f r)) = ltb-false (length shares) (shares_bytes * length demands) f
-
-    go : {v : Evaluation Tree} → Ended (number s own allowance store) s allowance v → r ≡ sheet_run_of v s → shares_bytes * length demands ≤ length shares
-    go (tested k z) e = absurd (omega (arith, ap (λ (y : SheetRun). y.number) e))
-    go (stopped {k = k} z l q) e = absurd (omega (arith, above k l, ap (λ (y : SheetRun). y.number) e))
-    go (passed z q) e = fits (no_number 18 (demand_tests (length demands) (length shares)) refl (own_passed s (length store) own z))
-
--- The shares' buffer: refused, as it was; accepted, with the shares of the list.
-pub shares_refused : (s demands shares : List ℕ) (v : Evaluation Tree) {r : SheetRun} → r ≡ sheet_run_of v s → (r.number ≡ 0 → ⊥)
-    → shares ≡ shares_by v demands (sheet_outcomes s) shares
-shares_refused s demands shares (refused k) e h = refl
-shares_refused s demands shares (completed stack pairs) e h = absurd (h (ap (λ (y : SheetRun). y.number) e))
-
-pub shares_asked : (s demands shares : List ℕ) {number allowance : ℕ} {v : Evaluation Tree} → Ended number s allowance v → {r : SheetRun} → r ≡ sheet_run_of v s → r.number ≡ 0
-    → encode_set demands (asked_list v s) ++ drop (shares_bytes * length demands) shares ≡ shares_by v demands (sheet_outcomes s) shares
-shares_asked s demands shares (tested k z) e h = absurd (omega (arith, ap (λ (y : SheetRun). y.number) e))
-shares_asked s demands shares (stopped {k = k} z l q) e h = absurd (omega (arith, above k l, ap (λ (y : SheetRun). y.number) e))
-shares_asked s demands shares (passed z q) e h =
-    λ i.
-    for_each demands (λ d. encode_shares (record { belief = belief-collect d (sheet_outcomes s) i; plausibility = plausibility-collect d (sheet_outcomes s) i }))
-    ++ drop (shares_bytes * length demands) shares
-
--- The answer, from what tests and run answered and the list's shares.
-pub answer_asked : (s : List ℕ) (demand : ℕ) (v : Evaluation Tree) {r : SheetRun} → r ≡ sheet_run_of v s → {b : Shares} → b ≡ shares_of demand (asked_list v s)
-    → answer_from r b ≡ answer_of v (structure s) (components s) demand
-answer_asked s demand v e f = (λ i. answer_from (e i) (f i)) ∙ go v
-  where
-    go : (v : Evaluation Tree) → answer_from (sheet_run_of v s) (shares_of demand (asked_list v s)) ≡ answer_of v (structure s) (components s) demand
-    go (refused k) = refl
-    go (completed stack pairs) =
-        λ i.
-        answer_from (sheet_run_of (completed stack pairs) s)
-        (record { belief = belief-collect demand (sheet_outcomes s) i; plausibility = plausibility-collect demand (sheet_outcomes s) i })

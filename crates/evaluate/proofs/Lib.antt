@@ -6,3 +6,4 @@ pub mod Demands
 pub mod SpeedMet
 pub mod SetMet
 pub mod LongerStore
+pub mod Asked

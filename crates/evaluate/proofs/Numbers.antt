@@ -3,23 +3,28 @@ use Prim.Native.Nat.{ℕ, zero, suc, ◌≤◌, ◌<◌}
 use mathlib.Core.Path.{◌≡◌, refl, sym, ap, ◌∙◌}
 use mathlib.Core.Bool.{Bool, true, false, cond}
 use mathlib.Core.Logic.{◌⊎◌}
-use mathlib.Core.List.{List, [], ◌∷◌, ◌++◌, append-nil}
+use mathlib.Core.List.{List, [], ◌∷◌, ◌++◌}
 use native.Mathlib.Decide.{ℕ_discrete}
 use native.Mathlib.Omega.{arith}
-use lib.Dec.{ltb, eqb}
+use lib.Dec.{ltb}
 use lib.ListN.{length}
-use borrow.Author.Tests.{lt-ltb, le-ltb, ltb-false, ne_eqb}
+use borrow.Author.Tests.{ltb-false}
+use Rattle.std.specs.Prelude.{Result, Ok, Err}
 use Rattle.theory.specs.Sums.{Every}
 use Rattle.theory.specs.Structure.{Tree}
 use Rattle.theory.specs.Evaluation.{Evaluation, completed, refused}
+use Rattle.theory.specs.declared.Refusal.{Refusal}
+use Rattle.theory.specs.declared.Refusal.TheVariants.{Length, Store}
+use Rattle.theory.specs.Refusals.{refusal_number, number_in, refused_when}
+use Rattle.theory.proofs.Refusals.{positive}
 use Rattle.theory.proofs.Method.{evaluate-refused}
-use Rattle.reading.specs.declared.Reading.{Reading}
+use Rattle.plan.specs.declared.Plan.{Plan}
 use Rattle.plan.specs.Tests.{Test, test, first_broken, Unbroken, outside, any_of}
-use Rattle.reading.specs.Reading.{sheet_tests, read_of}
-use Rattle.reading.proofs.Decided.{read_number_is}
 use Rattle.plan.proofs.Numbers.{no_number, number_never, first_found, first_none, first_then}
+use Rattle.reading.specs.Reading.{Reading, reading_as, sheet_tests, read_of}
+use Rattle.reading.proofs.Decided.{read_number_is}
 use Rattle.run.specs.Run.{needed}
-use Rattle.evaluate.specs.Answer.{plan_of, components, structure, sheet_outcomes, call_tests, tested_of, evaluated, tested_first, ending, answer_with, answer}
+use Rattle.evaluate.specs.Answer.{plan_of, components, structure, sheet_outcomes, call_tests, evaluated, tested_first, ending, answer_with, answer}
 use Rattle.evaluate.specs.Store.{is_late, store_with, store_after}
 use Rattle.evaluate.specs.SheetRun.{number_then, ending_at, sheet_run_of}
 use Rattle.evaluate.specs.Speed.{speed_tests, speed_answer_of, speed_answer, speed_store_after}
@@ -47,25 +52,23 @@ module _ (s : List ℕ) (room : ℕ) where
       room_there true q z = absurd (omega arith)
       room_there false q z = ltb-false room (needed (plan_of s)) q
 
-  -- The tests go three ways.
-  abbrev numbered : ℕ → Reading
-  numbered k = record { number = k; plan = plan_of s }
+  -- The number of a sheet that is refused, and of one that is read, by what test 12 answers.
+  pub number_refused : (r : Refusal) → reading_as (Err r) ≡ read_of s → refusal_number r ≡ first_broken (call_tests s room)
+  number_refused r e =
+      let n : refusal_number r ≡ (read_of s).number = sym (go r) ∙ ap (λ (x : Reading). x.number) e in
+      n ∙ sym (number_unread (λ z. omega (arith, positive r, n)))
+    where
+      go : (r : Refusal) → (reading_as (Err r)).number ≡ refusal_number r
+      go Length = refl
+      go _ = refl
 
-  pub tested_unread : ((read_of s).number ≡ 0 → ⊥) → read_of s ≡ tested_of s room
-  unfolding tested_of
-  tested_unread h = ap numbered (sym (number_unread h))
-
-  pub tested_short : (read_of s).number ≡ 0 → room < needed (plan_of s) → numbered 12 ≡ tested_of s room
-  unfolding tested_of
-  tested_short z h = ap numbered (sym (number_read z ∙ rw (lt-ltb room (needed (plan_of s)) h)))
-
-  pub tested_kept : (read_of s).number ≡ 0 → needed (plan_of s) ≤ room → read_of s ≡ tested_of s room
-  unfolding tested_of
-  tested_kept z h = ap numbered (z ∙ sym (number_read z ∙ rw (le-ltb room (needed (plan_of s)) h)))
-
-  pub tested_is : tested_of s room ≡ numbered (first_broken (call_tests s room))
-  unfolding tested_of
-  tested_is = refl
+  pub number_accepted : {p : Plan} → reading_as (Ok p) ≡ read_of s → {n : ℕ} → n ≡ needed p
+      → {x : Result (Unit {0}) Refusal} → x ≡ refused_when Store (ltb room n) → number_in x ≡ first_broken (call_tests s room)
+  number_accepted {p} e m h = ap number_in h ∙ (rw m (go (ltb room (needed p))) ∙ sym (number_read (ap (λ (y : Reading). y.number) (sym e))))
+    where
+      go : (b : Bool) → number_in (refused_when Store b) ≡ cond b 12 0
+      go true = refl
+      go false = refl
 
 -- ---- the tests of any call
 
@@ -88,29 +91,8 @@ pub set_numbered : (s demands : List ℕ) (room bytes : ℕ) → Numbered (set_t
 set_numbered s demands room bytes = numbered_by (set_tests s demands room bytes) refl refl
 
 -- A call's own tests come behind the others.
-module _ (s : List ℕ) (room : ℕ) where
-  pub number_then_is : (own : List Test) → number_then s room (first_broken own) ≡ first_broken (call_tests s room ++ own)
-  number_then_is own = first_then 12 (call_tests s room) own refl
-
-  pub number_alone : number_then s room 0 ≡ first_broken (call_tests s room)
-  number_alone = number_then_is [] ∙ ap first_broken (append-nil (call_tests s room))
-
-  pub number_passed : (own : ℕ) → number_then s room own ≡ 0 → first_broken (call_tests s room) ≡ 0
-  number_passed own = go (first_broken (call_tests s room))
-    where
-      go : (k : ℕ) → cond (eqb k 0) own k ≡ 0 → k ≡ 0
-      go zero e = refl
-      go (suc k) e = rw (ne_eqb (suc k) 0 (λ z. omega arith)) at e
-
-  pub own_passed : (own : ℕ) → number_then s room own ≡ 0 → own ≡ 0
-  own_passed own e = rw (number_passed own e) at e
-
-  pub number_early : (own : ℕ) → is_late own ≡ false → is_late (number_then s room own) ≡ false
-  number_early own h = go (first_broken (call_tests s room)) (call_numbered s room).early
-    where
-      go : (k : ℕ) → is_late k ≡ false → is_late (cond (eqb k 0) own k) ≡ false
-      go zero e = h
-      go (suc k) e = rw (ne_eqb (suc k) 0 (λ z. omega arith)) e
+pub number_then_is : (s : List ℕ) (room : ℕ) (own : List Test) → number_then s room (first_broken own) ≡ first_broken (call_tests s room ++ own)
+number_then_is s room own = first_then 12 (call_tests s room) own refl
 
 -- What a call ends in, by the number of its tests: refused by a test, at a join, or accepted.
 pub data Ended (number : ℕ) (s : List ℕ) (allowance : ℕ) : Evaluation Tree → Type 0 where

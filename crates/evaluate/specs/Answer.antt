@@ -1,20 +1,21 @@
 -- What a call answers: in general, by its tests; and the ordinary call, on a sheet, a demand and an allowance. Assumes nothing.
-use Rattle.std.specs.Prelude.{ℕ, zero, suc, List, [], ◌∷◌, ◌++◌, ltb, length}
-use Rattle.theory.specs.Focal.{Focal}
+use Rattle.std.specs.Prelude.{ℕ, zero, suc, Result, Ok, Err, List, [], ◌∷◌, ◌++◌, ltb, length}
+use Rattle.theory.specs.declared.Focal.{Focal}
 use Rattle.theory.specs.Masses.{total}
 use Rattle.theory.specs.declared.Component.{Component}
 use Rattle.theory.specs.declared.Entry.{Entry}
 use Rattle.theory.specs.Structure.{Tree}
+use Rattle.theory.specs.declared.Refusal.{Refusal}
+use Rattle.theory.specs.Refusals.{refusal_number}
 use Rattle.theory.specs.Choices.{outcomes, belief, plausibility}
 use Rattle.theory.specs.Lists.{drive_list}
 use Rattle.theory.specs.Evaluation.{Evaluation, completed, refused, evaluate}
 use Rattle.plan.specs.declared.Plan.{Plan}
-use Rattle.reading.specs.declared.Reading.{Reading}
 use Rattle.plan.specs.Tests.{Test, test, first_broken}
 use Rattle.plan.specs.Plan.{components_of, entries_of}
 use Rattle.reading.specs.Reading.{sheet_tests, read_of}
 use Rattle.run.specs.Run.{needed}
-use Rattle.evaluate.specs.declared.Answer.{Answer}
+use Rattle.evaluate.specs.declared.Accepted.{Accepted}
 
 -- The plan that a sheet reads as, its components and its structure.
 abbrev pub plan_of : List ℕ → Plan
@@ -37,10 +38,6 @@ sheet_list sheet = drive_list (structure sheet) (components sheet)
 abbrev pub call_tests : List ℕ → ℕ → List Test
 call_tests sheet room = sheet_tests sheet ++ (test 12 (ltb room (needed (plan_of sheet))) ∷ [])
 
--- What they find: the number of the first that is broken, or 0, and the plan.
-unfoldable pub tested_of : List ℕ → ℕ → Reading
-tested_of sheet room = record { number = first_broken (call_tests sheet room); plan = plan_of sheet }
-
 -- The run: the evaluation of the structure under the allowance, with 13 and 14 at each join.
 abbrev pub evaluated : List ℕ → ℕ → Evaluation Tree
 evaluated sheet allowance = evaluate (components sheet) allowance (structure sheet)
@@ -54,9 +51,24 @@ tested_first (suc k) run = refused (suc k)
 abbrev pub ending : List Test → List ℕ → ℕ → Evaluation Tree
 ending tests sheet allowance = tested_first (first_broken tests) (evaluated sheet allowance)
 
+-- What a call answers: the number, the total U, the two shares of it, the pairs formed and the length of the drive's list.
+pub record Answer : Type 0 where
+  pub number : ℕ
+  pub total : ℕ
+  pub belief : ℕ
+  pub plausibility : ℕ
+  pub pairs : ℕ
+  pub intervals : ℕ
+
 -- A refusal answers its number and zeros.
 abbrev pub refusal : ℕ → Answer
 refusal number = record { number = number; total = 0; belief = 0; plausibility = 0; pairs = 0; intervals = 0 }
+
+-- The number and the values of each case of a call's answer.
+abbrev pub answered_as : Result Accepted Refusal → Answer
+answered_as (Ok a) =
+    record { number = 0; total = a.total; belief = a.belief; plausibility = a.plausibility; pairs = a.pairs; intervals = a.intervals }
+answered_as (Err r) = refusal (refusal_number r)
 
 -- An accepted call answers 0, U, formula (7) over all choices, the pairs formed and the length of the drive's list.
 abbrev pub answer_of : Evaluation Tree → List Entry → List Component → ℕ → Answer

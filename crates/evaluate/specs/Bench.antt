@@ -2,9 +2,8 @@
 -- proofs/Bench.antt. Assumes nothing.
 use Rattle.std.specs.Prelude.{ℕ, ◌≡◌, List, [], ◌∷◌}
 use Rattle.theory.specs.Focal.{focal}
-use Rattle.evaluate.specs.declared.Answer.{Answer}
+use Rattle.evaluate.specs.Answer.{Answer, sheet_list, refusal, answer}
 use Rattle.theory.specs.Limits.{store_bytes}
-use Rattle.evaluate.specs.Answer.{sheet_list, refusal, answer}
 
 -- A: T 4, [0,0] weight 1, [2,3] weight 3. B: T 3, [1,1] weight 2, [1,4] weight 1. The two bytes of the structure follow.
 abbrev pub AB : List ℕ → List ℕ

@@ -20,18 +20,14 @@ use Rattle.plan.specs.declared.Plan.{Plan}
 use Rattle.plan.specs.Tests.{Test, Unbroken, First}
 use Rattle.plan.specs.Plan.{cleaned_plan}
 use Rattle.reading.specs.Reading.{read_of}
-use Rattle.writing.specs.declared.Written.{Written}
-use Rattle.writing.specs.Writing.{writer_tests, written_of, bytes_after, IgnoresUnused}
+use Rattle.writing.specs.Writing.{Written, writer_tests, written_of, bytes_after, IgnoresUnused}
 use Rattle.records.specs.Store.{settled}
 use Rattle.run.specs.Run.{needed, cleared}
 use Rattle.queries.specs.Shares.{shares_bytes}
-use Rattle.evaluate.specs.declared.Answer.{Answer}
-use Rattle.evaluate.specs.Answer.{plan_of, components, structure, sheet_outcomes, sheet_list, call_tests, evaluated, refusal, answer}
+use Rattle.evaluate.specs.Answer.{Answer, plan_of, components, structure, sheet_outcomes, sheet_list, call_tests, evaluated, refusal, answer}
 use Rattle.evaluate.specs.Store.{store_after}
-use Rattle.evaluate.specs.declared.SheetRun.{SheetRun}
-use Rattle.evaluate.specs.SheetRun.{refused_run, without_shares}
-use Rattle.evaluate.specs.declared.SpeedAnswer.{SpeedAnswer}
-use Rattle.evaluate.specs.Speed.{speed_tests, speed_answer, speed_store_after}
+use Rattle.evaluate.specs.SheetRun.{SheetRun, refused_run, without_shares}
+use Rattle.evaluate.specs.Speed.{SpeedAnswer, speed_tests, speed_answer, speed_store_after}
 use Rattle.evaluate.specs.Set.{set_tests, set_answer, set_store_after, shares_after}
 
 -- No rule is broken: none of a call's tests, and the plan runs past every join without 13 or 14.

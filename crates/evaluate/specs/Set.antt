@@ -1,14 +1,13 @@
 -- The call for a set of demands (document 02, request three): belief and plausibility at each of them. Assumes nothing.
 use Rattle.std.specs.Prelude.{ℕ, ◌*◌, List, ◌++◌, length, drop}
-use Rattle.theory.specs.Focal.{Focal}
+use Rattle.theory.specs.declared.Focal.{Focal}
 use Rattle.theory.specs.Structure.{Tree}
 use Rattle.theory.specs.Evaluation.{Evaluation, completed, refused}
 use Rattle.plan.specs.Tests.{Test}
 use Rattle.queries.specs.Shares.{shares_bytes, encode_set, demand_tests}
-use Rattle.evaluate.specs.declared.SheetRun.{SheetRun}
+use Rattle.evaluate.specs.SheetRun.{SheetRun, sheet_run_of}
 use Rattle.evaluate.specs.Answer.{sheet_outcomes, call_tests, ending}
 use Rattle.evaluate.specs.Store.{store_with}
-use Rattle.evaluate.specs.SheetRun.{sheet_run_of}
 
 -- Its tests: 1 to 12, as of any call; then 17 and 18, those of the demands and of the shares' buffer.
 abbrev pub set_tests : List ℕ → List ℕ → ℕ → ℕ → List Test

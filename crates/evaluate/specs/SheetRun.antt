@@ -1,18 +1,27 @@
 -- What tests and run answer in every call, before the list is asked. Assumes nothing.
-use Rattle.std.specs.Prelude.{ℕ, cond, List, eqb, length}
+use Rattle.std.specs.Prelude.{ℕ, cond, Result, Ok, Err, List, eqb, length}
 use Rattle.theory.specs.Structure.{Tree}
 use Rattle.theory.specs.Evaluation.{Evaluation}
 use Rattle.plan.specs.Tests.{first_broken}
 use Rattle.queries.specs.declared.Shares.{Shares}
-use Rattle.evaluate.specs.declared.Answer.{Answer}
-use Rattle.evaluate.specs.declared.SheetRun.{SheetRun}
+use Rattle.theory.specs.declared.Refusal.{Refusal}
+use Rattle.theory.specs.Refusals.{refusal_number}
+use Rattle.evaluate.specs.declared.Accepted.{Accepted}
+use Rattle.evaluate.specs.declared.AcceptedRun.{AcceptedRun}
 use Rattle.run.specs.Run.{needed}
-use Rattle.evaluate.specs.Answer.{plan_of, components, structure, sheet_list, call_tests, evaluated, tested_first, refusal, answer_of}
+use Rattle.evaluate.specs.Answer.{Answer, plan_of, components, structure, sheet_list, call_tests, evaluated, tested_first, refusal, answer_of}
 use Rattle.evaluate.specs.Store.{store_by}
 
 -- The number of a call's tests: 1 to 12, then `own`, the number of its own tests.
 abbrev pub number_then : List ℕ → ℕ → ℕ → ℕ
 number_then sheet room own = cond (eqb (first_broken (call_tests sheet room)) 0) own (first_broken (call_tests sheet room))
+
+-- What is answered before the list is asked: the number, the total U, the pairs formed and the length of the drive's list.
+pub record SheetRun : Type 0 where
+  pub number : ℕ
+  pub total : ℕ
+  pub pairs : ℕ
+  pub intervals : ℕ
 
 -- An answer without its shares.
 abbrev pub without_shares : Answer → SheetRun
@@ -21,6 +30,11 @@ without_shares a = record { number = a.number; total = a.total; pairs = a.pairs;
 -- A refusal's number and zeros; or 0, U, the pairs formed and the length of the drive's list: those of an ordinary call, at any demand.
 abbrev pub refused_run : ℕ → SheetRun
 refused_run number = without_shares (refusal number)
+
+-- The same of each case of what tests and run answer.
+abbrev pub run_as : Result AcceptedRun Refusal → SheetRun
+run_as (Ok r) = record { number = 0; total = r.total; pairs = r.pairs; intervals = r.intervals }
+run_as (Err r) = refused_run (refusal_number r)
 
 abbrev pub sheet_run_of : Evaluation Tree → List ℕ → SheetRun
 sheet_run_of end sheet = without_shares (answer_of end (structure sheet) (components sheet) 0)
@@ -39,14 +53,7 @@ sheet_run sheet room own allowance = sheet_run_of (ending_at (number_then sheet 
 abbrev pub store_then : List ℕ → ℕ → ℕ → List ℕ → List ℕ
 store_then sheet own allowance store = store_at (number_then sheet (length store) own) sheet allowance store
 
--- The answer, from that and the shares of the list.
-abbrev pub answer_from : SheetRun → Shares → Answer
-answer_from r s =
-    record {
-      number = r.number;
-      total = r.total;
-      belief = s.belief;
-      plausibility = s.plausibility;
-      pairs = r.pairs;
-      intervals = r.intervals;
-    }
+-- The answer of an accepted call, from that and the shares of the list.
+abbrev pub accepted_from : AcceptedRun → Shares → Accepted
+accepted_from r s =
+    record { total = r.total; belief = s.belief; plausibility = s.plausibility; pairs = r.pairs; intervals = r.intervals }

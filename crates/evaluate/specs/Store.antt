@@ -1,6 +1,6 @@
 -- What the store holds after a call: every byte of it. Assumes nothing.
 use Rattle.std.specs.Prelude.{ℕ, Bool, cond, ◌||◌, List, eqb, length}
-use Rattle.theory.specs.Focal.{Focal}
+use Rattle.theory.specs.declared.Focal.{Focal}
 use Rattle.theory.specs.Structure.{Tree}
 use Rattle.theory.specs.Evaluation.{Evaluation, completed, refused}
 use Rattle.plan.specs.Tests.{Test}

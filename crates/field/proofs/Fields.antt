@@ -9,8 +9,9 @@ use lib.ListN.{length, drop}
 use lib.Seq.{get_or-drop, drop-set-lt}
 use Rattle.numbers.specs.Numbers.{Bytes}
 use Rattle.field.specs.Bits.{bit, field_at, set_bit, put_at}
-use Rattle.field.specs.Fields.{Field, width_of, Fitting, Holds, put_all}
-use Rattle.field.proofs.Field.{bit_lt, field_lt}
+use Rattle.field.specs.Fields.{width_of, Fitting, Holds, put_all}
+use Rattle.field.specs.declared.Field.{Field}
+use Rattle.field.proofs.FieldLaws.{bit_lt, field_lt}
 use Rattle.field.proofs.Put.{length_put_at, put_at_other, put_at_same, put_at_bytes, field_ext}
 
 -- Two rows, one behind the other.

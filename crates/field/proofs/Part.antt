@@ -8,7 +8,8 @@ use lib.ListN.{length, take, drop, take-append-drop}
 use lib.Seq.{get_or-drop, drop-set-add, take-set-le, drop-length}
 use borrow.Rule.Slice.PartMut.{put_mid, Post-is}
 use Rattle.field.specs.Bits.{set_bit, put_at}
-use Rattle.field.specs.Fields.{Field, put_all}
+use Rattle.field.specs.Fields.{put_all}
+use Rattle.field.specs.declared.Field.{Field}
 
 set_bit-drop : (s : List ℕ) (m j b : ℕ) → set_bit (drop m s) j b ≡ drop m (set_bit s (8 * m + j) b)
 unfolding set_bit

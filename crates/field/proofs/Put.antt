@@ -13,7 +13,7 @@ use lib.Seq.{get_or-set_same, get_or-set_other, set-set, set_comm, ext_get_or}
 use lib.Pow.{high, low, shr-shr, pow_pos, field, mod-mod-pow, pow-add}
 use Rattle.numbers.specs.Numbers.{Bytes}
 use Rattle.field.specs.Bits.{with_bit, bit, field_at, set_bit, put_at}
-use Rattle.field.proofs.Field.{field_byte}
+use Rattle.field.proofs.FieldLaws.{field_byte}
 
 put_eq : (x p b : ℕ) → with_bit x p b ≡ (x / p / 2 * 2 + b) * p + x % p
 put_eq x p b =
@@ -133,7 +133,7 @@ room : (s : List ℕ) (a w v : ℕ) → a + suc w ≤ 8 * length s → a + w < 8
 room s a w v h = rw length_put_at (omega arith)
 
 -- A field of one bit more in front.
-pub put_at_front : (s : List ℕ) (a w v : ℕ) → a + suc w ≤ 8 * length s → set_bit (put_at s (a + 1) w v) a (v / 2 ^ w % 2) ≡ put_at s a (w + 1) v
+put_at_front : (s : List ℕ) (a w v : ℕ) → a + suc w ≤ 8 * length s → set_bit (put_at s (a + 1) w v) a (v / 2 ^ w % 2) ≡ put_at s a (w + 1) v
 unfolding put_at
 put_at_front s a zero v h = rw (div-one, add-zero)
 put_at_front s a (suc w) v h =
@@ -144,6 +144,16 @@ put_at_front s a (suc w) v h =
     let r : a + 1 + w < 8 * length (put_at s (a + 1) w (v / 2)) = room s (a + 1) w (v / 2) (omega arith) in
     set_bit_comm (put_at s (a + 1) w (v / 2)) (a + 1 + w) (v % 2) a (v / 2 ^ suc w % 2) r (omega arith) (omega arith) (omega arith) (omega arith)
     ∙ (λ i. set_bit (front i) (e i) (v % 2)) ∙ ap (λ (n : ℕ). put_at s a n v) (sym (add-one (suc w)))
+
+-- One bit more in front of the i-th, of a field of w bits from bit a; what is left of v loses it.
+pub put_at_more : (s t : List ℕ) (a w v x i : ℕ) → 0 < i → i ≤ w → a + w ≤ 8 * length s → x ≡ v / 2 ^ (w - i) → t ≡ put_at s (a + i) (w - i) v
+    → (x / 2 ≡ v / 2 ^ (w - (i - 1))) × (set_bit t (a + (i - 1)) (x % 2) ≡ put_at s (a + (i - 1)) (w - (i - 1)) v)
+put_at_more s t a w v x i f g h p q =
+    let k : ℕ = w - i in
+    let e : w - (i - 1) ≡ k + 1 = omega arith in
+    let d : a + i ≡ a + (i - 1) + 1 = omega arith in
+    let r : t ≡ put_at s (a + (i - 1) + 1) k v = rw (← d) q in
+    rw (e, p, r) (shr-shr v k 1, put_at_front s (a + (i - 1)) k v (omega arith))
 
 -- Every bit outside of the field stays.
 pub put_at_other : (s : List ℕ) (a w v j : ℕ) → a + w ≤ 8 * length s → (a ≤ j → j < a + w → ⊥) → bit (put_at s a w v) j ≡ bit s j

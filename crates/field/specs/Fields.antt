@@ -1,6 +1,7 @@
 -- Fields: where one may stand, how some stand in bytes in a row, and bytes with them put in. Assumes nothing.
 use Rattle.std.specs.Prelude.{◌≡◌, List, [], ◌∷◌, ℕ, ◌+◌, ◌*◌, ◌^◌, ◌≤◌, ◌<◌, length}
 use Rattle.field.specs.Bits.{field_at, put_at}
+use Rattle.field.specs.declared.Field.{Field}
 
 -- The w bits from bit a, at most `most`, lie inside the bytes s and end by bit 65,536.
 pub record BitsInside (most : ℕ) (s : List ℕ) (a w : ℕ) : Type 0 where
@@ -17,12 +18,13 @@ abbrev pub WindowInside : List ℕ → ℕ → ℕ → Type 0
 WindowInside = BitsInside 57
 
 -- A field: a number and its width in bits.
-pub record Field : Type 0 where
-  pub width : ℕ
-  pub value : ℕ
-
 abbrev pub bits : ℕ → ℕ → Field
 bits w v = record { width = w; value = v }
+
+-- Each of these fields, in a row from bit a, may stand in s.
+unfoldable pub FieldsInside : List ℕ → ℕ → List Field → Type 0
+FieldsInside s a [] = Unit {0}
+FieldsInside s a (f ∷ fs) = FieldInside s a f.width × FieldsInside s (a + f.width) fs
 
 -- How many bits fields take.
 unfoldable pub width_of : List Field → ℕ

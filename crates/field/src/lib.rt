@@ -1,9 +1,16 @@
 // Fields of bits in a slice of bytes, most significant bit first. 8 is the width of a byte; powers of two come from crate powers.
 #![tactic(auto)]
 
-ghost use Rattle.std.specs.Prelude.{◌≡◌, ◌+◌, ◌*◌, ◌%◌, ◌^◌, ◌≤◌, ◌<◌, [], ◌∷◌, length};
+ghost use Rattle.std.specs.Prelude.{◌≡◌, ◌*◌, ◌%◌, ◌^◌, ◌≤◌, ◌<◌, length};
 ghost use Rattle.field.specs.Bits.{field_at, window_at, with_bit, set_bit, put_at};
-ghost use Rattle.field.specs.Fields.{FieldInside, WindowInside, bits, put_all};
+ghost use Rattle.field.specs.Fields.{FieldInside, FieldsInside, WindowInside, put_all};
+
+// A field: a number and its width in bits.
+#[derive(Clone, Copy)]
+pub struct Field {
+    pub width: usize,
+    pub value: u32,
+}
 
 // The window of width bits at bit at: those bits behind the ones before them in their first byte, out of at most eight bytes.
 pub fn window(src: &[u8], at: usize, width: usize) -> u64
@@ -52,7 +59,7 @@ fn put_bit(dst: &mut [u8], j: usize, b: u64)
 {
     let i = j / 8;
     let p = powers::byte_pow2(7 - j % 8);
-    let x = numbers::wide(dst[i]);
+    let x = u64::from(dst[i]);
     dst[i] = with_bit(x, p, b) as u8;
 }
 
@@ -62,21 +69,21 @@ pub fn put_field(dst: &mut [u8], at: usize, width: usize, value: u32)
     ensures { dst.new ≡ put_at dst.old at width value }
 {
     let two = powers::pow2(1);
-    let mut x = value as u64;
-    let mut i = width;
-    while 0 < i {
-        i -= 1;
+    let mut x = u64::from(value);
+    for i in (0..width).rev() {
         put_bit(dst, at + i, x % two);
-        x = x / two;
+        x /= two;
     }
 }
 
-// Puts x, y and z as three fields in a row from bit at, of a, b and c bits.
-pub fn put_three(dst: &mut [u8], at: usize, a: usize, x: u32, b: usize, y: u32, c: usize, z: u32)
-    requires { FieldInside dst.old at a × FieldInside dst.old (at + a) b × FieldInside dst.old (at + a + b) c }
-    ensures { dst.new ≡ put_all dst.old at (bits a x ∷ bits b y ∷ bits c z ∷ []) }
+// Puts fields in a row from bit at.
+pub fn put_fields(dst: &mut [u8], at: usize, fields: &[Field])
+    requires { FieldsInside dst.old at fields.now }
+    ensures { dst.new ≡ put_all dst.old at fields.now }
 {
-    put_field(dst, at, a, x);
-    put_field(dst, at + a, b, y);
-    put_field(dst, at + a + b, c, z);
+    let mut place = at;
+    for field in fields {
+        put_field(dst, place, field.width, field.value);
+        place += field.width;
+    }
 }

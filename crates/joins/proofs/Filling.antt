@@ -1,15 +1,16 @@
 -- A list built in a buffer by one insertion after the other, and stopped before a 257th interval. Assumes nothing.
 use mathlib.Core.Path.{◌≡◌, refl, sym, ap, ◌∙◌}
-use mathlib.Core.Bool.{Bool, true, false}
-use mathlib.Core.Logic.{⊎_elim, ◌⊎◌, inl, inr}
+use mathlib.Core.Logic.{⊎_elim}
 use mathlib.Core.List.{List, [], ◌∷◌, ◌++◌}
 use Prim.Native.Nat.{ℕ, ◌+◌, ◌^◌, ◌≤◌, ◌<◌}
 use native.Mathlib.Omega.{arith}
-use lib.Dec.{leb}
 use lib.ListN.{length}
-use borrow.Author.Tests.{le-leb, lt-leb, leb-true, leb-false}
+use Rattle.std.proofs.lemmas.Bool.Decides.{nat_tests, leb_tells}
+use borrow.Author.Tests.{le-leb, lt-leb}
+use Rattle.std.specs.Prelude.{Option, Some, None}
 use Rattle.theory.specs.Sums.{Every}
-use Rattle.theory.specs.Focal.{Focal, weights}
+use Rattle.theory.specs.Focal.{weights}
+use Rattle.theory.specs.declared.Focal.{Focal}
 use Rattle.theory.specs.Order.{InOrder, inserted}
 use Rattle.theory.specs.Limits.{most_intervals}
 use Rattle.theory.proofs.Sums.{sum_append}
@@ -21,29 +22,22 @@ use Rattle.records.specs.Records.{records, Under, speed_limit}
 use Rattle.records.specs.Store.{holding}
 use Rattle.records.specs.Insertion.{insertion_of, insert_or_stay, Insertable}
 use Rattle.records.proofs.Store.{holding_over}
-use Rattle.joins.specs.Filling.{Filled, fill}
-use Rattle.joins.proofs.Holding.{Held, view, insertable, held_count, held_step, held_stop, insert_under}
+use Rattle.joins.specs.Filling.{Filled, fill, length_of_filled}
+use Rattle.joins.proofs.Holding.{some_fits, none_over, Held, view, insertable, held_step, held_over, held_stop, insert_under}
 
 -- ---- a fill goes on, or it stops
 
-pub fits_or_over : (n : ℕ) → (n ≤ most_intervals) ⊎ (most_intervals < n)
-fits_or_over n = go (leb n most_intervals) refl
-  where
-    go : (b : Bool) → leb n most_intervals ≡ b → (n ≤ most_intervals) ⊎ (most_intervals < n)
-    go true e = inl (leb-true n most_intervals e)
-    go false e = inr (leb-false n most_intervals e)
-
 module _ (l : List Focal) (p : Focal) (ps : List Focal) where
   fill_goes : length (inserted p l) ≤ most_intervals → fill l (p ∷ ps) ≡ fill (inserted p l) ps
-  fill_goes h = rw (le-leb (length (inserted p l)) most_intervals h)
+  fill_goes h = grind (arith, nat_tests)
 
   fill_stops : most_intervals < length (inserted p l) → fill l (p ∷ ps) ≡ record { list = l; count = length (inserted p l) }
-  fill_stops h = rw (lt-leb (length (inserted p l)) most_intervals h)
+  fill_stops h = grind (arith, nat_tests)
 
   -- A fill is taken apart by whether it stops at p.
   by_room : (P : Filled → Type 0) → (length (inserted p l) ≤ most_intervals → P (fill (inserted p l) ps))
       → (most_intervals < length (inserted p l) → P (record { list = l; count = length (inserted p l) })) → P (fill l (p ∷ ps))
-  by_room P f g = ⊎_elim (λ h. rw (fill_goes h) (f h)) (λ h. rw (fill_stops h) (g h)) (fits_or_over (length (inserted p l)))
+  by_room P f g = ⊎_elim (λ k. rw k.0 (f k.1)) (λ k. rw k.0 (g k.1)) (leb_tells (length (inserted p l)) most_intervals)
 
 -- ---- what a filled list has of the list that it began with
 
@@ -79,17 +73,16 @@ grown l (p ∷ ps) =
 
 -- ---- lists that go in one after the other
 
-pub fill_on : (l xs ys : List Focal) → (fill l xs).count ≤ most_intervals → fill l (xs ++ ys) ≡ fill (fill l xs).list ys
+fill_on : (l xs ys : List Focal) → (fill l xs).count ≤ most_intervals → fill l (xs ++ ys) ≡ fill (fill l xs).list ys
 fill_on l [] ys h = refl
 fill_on l (p ∷ ps) ys h =
-    ⊎_elim (λ k. fill_goes l p (ps ++ ys) k ∙ fill_on (inserted p l) ps ys (rw (fill_goes l p ps k) at h) ∙ ap (λ (f : Filled). fill f.list ys) (sym (fill_goes l p ps k)))
-    (λ k. let z : length (inserted p l) ≤ most_intervals = rw (fill_stops l p ps k) at h in absurd (omega arith)) (fits_or_over (length (inserted p l)))
+    ⊎_elim (λ k. rw k.0 (fill_on (inserted p l) ps ys (rw k.0 at h)))
+    (λ k. let z : length (inserted p l) ≤ most_intervals = rw k.0 at h in absurd (omega arith)) (leb_tells (length (inserted p l)) most_intervals)
 
-pub fill_off : (l xs ys : List Focal) → length l ≤ most_intervals → most_intervals < (fill l xs).count → fill l (xs ++ ys) ≡ fill l xs
+fill_off : (l xs ys : List Focal) → length l ≤ most_intervals → most_intervals < (fill l xs).count → fill l (xs ++ ys) ≡ fill l xs
 fill_off l [] ys r h = absurd (omega arith)
 fill_off l (p ∷ ps) ys r h =
-    ⊎_elim (λ k. fill_goes l p (ps ++ ys) k ∙ fill_off (inserted p l) ps ys k (rw (fill_goes l p ps k) at h) ∙ sym (fill_goes l p ps k))
-    (λ k. fill_stops l p (ps ++ ys) k ∙ sym (fill_stops l p ps k)) (fits_or_over (length (inserted p l)))
+    ⊎_elim (λ k. rw k.0 (fill_off (inserted p l) ps ys k.1 (rw k.0 at h))) (λ k. rw k.0) (leb_tells (length (inserted p l)) most_intervals)
 
 -- ---- a list on the way: `acc` stands in the buffer, `rest` is still to go in, and `g` is what that gives
 
@@ -101,12 +94,15 @@ pub record Filling (out₀ out : List ℕ) (m : ℕ) (rest : List Focal) (g : Fi
   pub goal : fill acc rest ≡ g
 
 -- What is there at the end.
-abbrev pub Done : List ℕ → List ℕ → ℕ → Filled → Type 0
-Done out₀ out m g = (m ≡ g.count) × (out ≡ holding out₀ g.list)
+abbrev pub Done : List ℕ → List ℕ → Option ℕ → Filled → Type 0
+Done out₀ out answer g = (answer ≡ length_of_filled g) × (out ≡ holding out₀ g.list)
 
-pub filling_done : {out₀ out : List ℕ} {m : ℕ} {g : Filled} → Filling out₀ out m [] g → Done out₀ out m g
-filling_done {out₀ = out₀} f =
-    (f.held.count ∙ ap (λ (x : Filled). x.count) f.goal, f.held.bytes ∙ ap (λ (x : Filled). holding out₀ x.list) f.goal)
+-- Nothing is left to go in.
+pub filling_done : {out₀ out : List ℕ} {m : ℕ} {g : Filled} → Filling out₀ out m [] g → Done out₀ out (Some m) g
+filling_done {out₀ = out₀} {m = m} f = (
+  ap Some f.held.count ∙ rw (le-leb (length f.acc) most_intervals f.held.room) at (ap length_of_filled f.goal),
+  f.held.bytes ∙ ap (λ (x : Filled). holding out₀ x.list) f.goal,
+)
 
 -- One interval goes in.
 module _ {out₀ out : List ℕ} {m : ℕ} {p : Focal} {rest : List Focal} {g : Filled} (f : Filling out₀ out m (p ∷ rest) g) where
@@ -116,24 +112,25 @@ module _ {out₀ out : List ℕ} {m : ℕ} {p : Focal} {rest : List Focal} {g : 
   under_now : Under speed_limit p
   under_now = every_head f.under
 
-  module _ {x : Focal} (q : x ≡ p) {e : List ℕ} {r : Insertion}
-      (ensures : (r ≡ insertion_of x (records m out)) × (e ≡ holding out (insert_or_stay x (records m out)))) where
-    count : r.count ≡ length (inserted p f.acc)
-    count = held_count f.held under_now fits_now q ensures
+  module _ {x : Focal} (q : x ≡ p) {e : List ℕ} (bytes : e ≡ holding out (insert_or_stay x (records m out))) where
+    pub filling_step : {r : Insertion} → Some r ≡ insertion_of x (records m out) → Filling out₀ e r.count rest g
+    filling_step v =
+        let h = held_step f.held q under_now fits_now bytes v in
+        record {
+          acc = inserted p f.acc;
+          held = h;
+          under = every_tail f.under;
+          fits = omega (arith, f.fits, weights_insert p f.acc);
+          goal = sym (fill_goes f.acc p rest h.room) ∙ f.goal;
+        }
 
-    pub filling_step : r.count ≤ most_intervals → Filling out₀ e r.count rest g
-    filling_step h = record {
-      acc = inserted p f.acc;
-      held = held_step f.held under_now fits_now q ensures h;
-      under = every_tail f.under;
-      fits = omega (arith, f.fits, weights_insert p f.acc);
-      goal = sym (fill_goes f.acc p rest (omega (arith, count))) ∙ f.goal;
-    }
-
-    pub filling_stop : most_intervals < r.count → Done out₀ e r.count g
-    filling_stop h =
-        let ge : record { list = f.acc; count = length (inserted p f.acc) } ≡ g = sym (fill_stops f.acc p rest (omega (arith, count))) ∙ f.goal in
-        (count ∙ ap (λ (x : Filled). x.count) ge, held_stop f.held under_now fits_now q ensures h ∙ ap (λ (x : Filled). holding out₀ x.list) ge)
+    pub filling_stop : None ≡ insertion_of x (records m out) → Done out₀ e None g
+    filling_stop v =
+        let k : most_intervals < length (inserted p f.acc) = held_over f.held q v in
+        let ge : record { list = f.acc; count = length (inserted p f.acc) } ≡ g = sym (fill_stops f.acc p rest k) ∙ f.goal in (
+          rw (lt-leb (length (inserted p f.acc)) most_intervals k) at (ap length_of_filled ge),
+          held_stop f.held q under_now fits_now bytes v ∙ ap (λ (x : Filled). holding out₀ x.list) ge,
+        )
 
 -- A row of intervals goes in.
 module _ {out₀ out : List ℕ} {m : ℕ} (xs rest : List Focal) {g : Filled} (f : Filling out₀ out m (xs ++ rest) g) where
@@ -143,25 +140,25 @@ module _ {out₀ out : List ℕ} {m : ℕ} (xs rest : List Focal) {g : Filled} (
   row_under : Every (Under speed_limit) xs
   row_under = (every_split xs f.under).0
 
-  module _ {e : List ℕ} {n : ℕ}
-      (ensures : (n ≡ (fill (records m out) xs).count) × (e ≡ holding out (fill (records m out) xs).list)) where
-    row_count : n ≡ (fill f.acc xs).count
-    row_count = ensures.0 ∙ ap (λ (l : List Focal). (fill l xs).count) (view f.held)
-
+  module _ {e : List ℕ} (bytes : e ≡ holding out (fill (records m out) xs).list) where
     row_bytes : e ≡ holding out₀ (fill f.acc xs).list
     row_bytes =
-        ensures.1 ∙ (λ k. holding (f.held.bytes k) (fill (view f.held k) xs).list) ∙ holding_over out₀ f.acc (fill f.acc xs).list (grown f.acc xs).longer
+        bytes ∙ (λ k. holding (f.held.bytes k) (fill (view f.held k) xs).list) ∙ holding_over out₀ f.acc (fill f.acc xs).list (grown f.acc xs).longer
 
-    pub filling_row : n ≤ most_intervals → Filling out₀ e n rest g
-    filling_row h =
+    -- What the row answers is that of the list so far.
+    row_answer : {o : Option ℕ} → o ≡ length_of_filled (fill (records m out) xs) → o ≡ length_of_filled (fill f.acc xs)
+    row_answer v = v ∙ ap (λ (l : List Focal). length_of_filled (fill l xs)) (view f.held)
+
+    pub filling_row : {n : ℕ} → Some n ≡ length_of_filled (fill (records m out) xs) → Filling out₀ e n rest g
+    filling_row v =
         let k : Grown f.acc xs (fill f.acc xs) = grown f.acc xs in
-        let c : (fill f.acc xs).count ≤ most_intervals = omega (arith, row_count) in
+        let c = some_fits (fill f.acc xs).count _ (row_answer v) in
         let w : weights (xs ++ rest) ≡ weights xs + weights rest = sum_append (λ (x : Focal). x.weight) xs rest in
         record {
           acc = (fill f.acc xs).list;
           held = record {
             bytes = row_bytes;
-            count = row_count ∙ k.count c;
+            count = c.1 ∙ k.count c.0;
             room = k.room f.held.room;
             len = f.held.len;
             order = k.order f.held.order;
@@ -170,13 +167,14 @@ module _ {out₀ out : List ℕ} {m : ℕ} (xs rest : List Focal) {g : Filled} (
           };
           under = (every_split xs f.under).1;
           fits = omega (arith, f.fits, k.sum);
-          goal = sym (fill_on f.acc xs rest c) ∙ f.goal;
+          goal = sym (fill_on f.acc xs rest c.0) ∙ f.goal;
         }
 
-    pub filling_row_stop : most_intervals < n → Done out₀ e n g
-    filling_row_stop h =
-        let ge : fill f.acc xs ≡ g = sym (fill_off f.acc xs rest f.held.room (omega (arith, row_count))) ∙ f.goal in
-        (row_count ∙ ap (λ (x : Filled). x.count) ge, row_bytes ∙ ap (λ (x : Filled). holding out₀ x.list) ge)
+    pub filling_row_stop : None ≡ length_of_filled (fill (records m out) xs) → Done out₀ e None g
+    filling_row_stop v =
+        let k : most_intervals < (fill f.acc xs).count = none_over (fill f.acc xs).count _ (row_answer v) in
+        let ge : fill f.acc xs ≡ g = sym (fill_off f.acc xs rest f.held.room k) ∙ f.goal in
+        (row_answer v ∙ ap length_of_filled ge, row_bytes ∙ ap (λ (x : Filled). holding out₀ x.list) ge)
 
 -- ---- what is filled where the whole list has at most most_intervals intervals, and where it has more
 

@@ -1,11 +1,16 @@
 -- A list that a buffer holds, and one insertion into it. Assumes nothing.
 use mathlib.Core.Path.{◌≡◌, sym, ap, ◌∙◌}
+use mathlib.Core.Bool.{cond}
 use mathlib.Core.List.{List, []}
 use Prim.Native.Nat.{ℕ, ◌+◌, ◌-◌, ◌*◌, ◌^◌, ◌≤◌, ◌<◌}
 use native.Mathlib.Omega.{arith}
+use lib.Dec.{leb}
 use lib.ListN.{length, drop}
+use Rattle.std.proofs.lemmas.Bool.Decides.{nat_tests}
+use Rattle.std.specs.Prelude.{Option, Some, None, IsSome}
 use Rattle.theory.specs.Sums.{Every}
-use Rattle.theory.specs.Focal.{Focal, weights}
+use Rattle.theory.specs.Focal.{weights}
+use Rattle.theory.specs.declared.Focal.{Focal}
 use Rattle.theory.specs.Joins.{joined_focal, pairs}
 use Rattle.theory.specs.declared.Join.{Join}
 use Rattle.theory.specs.Order.{InOrder, inserted}
@@ -20,10 +25,19 @@ use Rattle.records.specs.declared.Insertion.{Insertion}
 use Rattle.records.specs.Records.{records, Under, speed_limit}
 use Rattle.records.specs.Store.{holding}
 use Rattle.records.specs.Insertion.{insertion_of, insert_or_stay, Insertable}
-use Rattle.records.proofs.Records.{length-records, holds, records-encode, records_under}
+use Rattle.records.proofs.RecordLaws.{length-records, holds, records-encode, records_under}
 use Rattle.records.proofs.Store.{length-holding, holding_over}
 use Rattle.records.proofs.Inserting.{stay_fits, stay_full}
 use Rattle.joins.specs.Joins.{row_of}
+
+-- ---- a length of at most 256, and what is answered where there is one
+
+module _ {A : Type 0} (n : ℕ) (x : A) where
+  pub some_fits : {y : A} → Some y ≡ cond (leb n most_intervals) (Some x) None → (n ≤ most_intervals) × (y ≡ x)
+  some_fits e = grind (arith, nat_tests)
+
+  pub none_over : None ≡ cond (leb n most_intervals) (Some x) None → most_intervals < n
+  none_over e = grind (arith, nat_tests)
 
 -- ---- records hold what is joined of two records
 
@@ -77,34 +91,41 @@ module _ {out₀ out : List ℕ} {m : ℕ} {l : List Focal} (h : Held out₀ out
   pub view : records m out ≡ l
   view = (λ k. records (h.count k) (h.bytes k)) ∙ records-encode (drop (12 * length l) out₀) h.under h.sum
 
-  pub length_now : length out ≡ length out₀
+  length_now : length out ≡ length out₀
   length_now = ap length h.bytes ∙ length-holding out₀ l (omega (arith, h.room, h.len))
 
   pub insertable : (w : ℕ) → weights l + w < 2 ^ 64 → Insertable out m w
   insertable w f =
       record { count = omega (arith, h.room, h.count); room = omega (arith, length_now, h.len); ordered = rw view h.order; fits = rw view f }
 
-  -- One insertion of p.
-  module _ {p : Focal} (u : Under speed_limit p) (f : weights l + p.weight < 2 ^ 64) {g : Focal} (q : g ≡ p) {e : List ℕ} {r : Insertion}
-      (ensures : (r ≡ insertion_of g (records m out)) × (e ≡ holding out (insert_or_stay g (records m out)))) where
-    pub held_count : r.count ≡ length (inserted p l)
-    held_count = ap (λ (x : Insertion). x.count) ensures.0 ∙ (λ k. length (inserted (q k) (view k)))
+  -- One insertion of p: what it answers,
+  module _ {p g : Focal} (q : g ≡ p) where
+    answer : {o : Option Insertion} → o ≡ insertion_of g (records m out) → o ≡ insertion_of p l
+    answer v = v ∙ (λ k. insertion_of (q k) (view k))
 
-    after : e ≡ holding (holding out₀ l) (insert_or_stay p l)
-    after = ensures.1 ∙ (λ k. holding (h.bytes k) (insert_or_stay (q k) (view k)))
+    pub held_room : {o : Option Insertion} → length (inserted p l) ≤ most_intervals → o ≡ insertion_of g (records m out) → IsSome o
+    held_room {o} k v = rw (answer v) (grind (arith, nat_tests))
 
-    pub held_step : r.count ≤ most_intervals → Held out₀ e r.count (inserted p l)
-    held_step k =
-        let fit : length (inserted p l) ≤ most_intervals = omega (arith, held_count) in
-        record {
-          bytes = after ∙ ap (holding (holding out₀ l)) (stay_fits p l fit) ∙ holding_over out₀ l (inserted p l) (length_insert p l).0;
-          count = held_count;
-          room = fit;
-          len = h.len;
-          order = order_insert p h.order;
-          under = insert_under p u h.under;
-          sum = omega (arith, weights_insert p l);
-        }
+    pub held_over : None ≡ insertion_of g (records m out) → most_intervals < length (inserted p l)
+    held_over v = none_over (length (inserted p l)) _ (answer v)
 
-    pub held_stop : most_intervals < r.count → e ≡ holding out₀ l
-    held_stop k = after ∙ ap (holding (holding out₀ l)) (stay_full p l (omega (arith, held_count))) ∙ holding_over out₀ l l (omega arith)
+    -- and what it leaves there.
+    module _ (u : Under speed_limit p) (f : weights l + p.weight < 2 ^ 64) {e : List ℕ} (bytes : e ≡ holding out (insert_or_stay g (records m out))) where
+      after : e ≡ holding (holding out₀ l) (insert_or_stay p l)
+      after = bytes ∙ (λ k. holding (h.bytes k) (insert_or_stay (q k) (view k)))
+
+      pub held_step : {r : Insertion} → Some r ≡ insertion_of g (records m out) → Held out₀ e r.count (inserted p l)
+      held_step {r} v =
+          let k = some_fits (length (inserted p l)) _ (answer v) in
+          record {
+            bytes = after ∙ ap (holding (holding out₀ l)) (stay_fits p l k.0) ∙ holding_over out₀ l (inserted p l) (length_insert p l).0;
+            count = ap (λ (x : Insertion). x.count) k.1;
+            room = k.0;
+            len = h.len;
+            order = order_insert p h.order;
+            under = insert_under p u h.under;
+            sum = omega (arith, weights_insert p l);
+          }
+
+      pub held_stop : None ≡ insertion_of g (records m out) → e ≡ holding out₀ l
+      held_stop v = after ∙ ap (holding (holding out₀ l)) (stay_full p l (held_over v)) ∙ holding_over out₀ l l (omega arith)

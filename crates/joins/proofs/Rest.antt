@@ -1,20 +1,23 @@
--- Bytes copied out of a store, and its free rest, lent whole. Assumes nothing.
+-- A list copied out of a store, and the store's free rest, lent whole. Assumes nothing.
 use mathlib.Core.Path.{◌≡◌, ap, ◌∙◌}
 use mathlib.Core.List.{List, ◌++◌, append-nil}
-use Prim.Native.Nat.{ℕ, ◌+◌, ◌*◌, ◌-◌, ◌≤◌}
+use Prim.Native.Nat.{ℕ, ◌+◌, ◌*◌, ◌-◌}
 use native.Mathlib.Omega.{arith}
 use lib.ListN.{length, take, drop, length-drop, drop_of_length-le}
-use Rattle.records.specs.Records.{records}
-use Rattle.records.specs.Store.{copied_from, list_in}
+use Rattle.records.specs.declared.view.Records.{Records}
+use Rattle.records.specs.Records.{records, records_of}
 use Rattle.records.proofs.Store.{copy_holds}
+use Rattle.joins.specs.declared.Span.{Span}
+use Rattle.joins.specs.Joins.{list_of_span, Operand}
 
--- The n records from `start` on are copied over the front of z.
-pub copied : (s z x : List ℕ) (start n : ℕ) → start + 12 * n ≤ length s → x ≡ take (start + 12 * n - start) (drop start s) → let e = x ++ drop (12 * n) z in
-    (e ≡ copied_from s start (12 * n) z) × (records n e ≡ list_in s start n)
-copied s z x start n h q =
-    let m : start + 12 * n - start ≡ 12 * n = omega arith in
-    let c : x ++ drop (12 * n) z ≡ copied_from s start (12 * n) z = ap (λ (l : List ℕ). l ++ drop (12 * n) z) (rw m at q) in
-    (c, ap (records n) c ∙ copy_holds s (drop (12 * n) z) start n h)
+-- A list of the store s is read as it stands there, where its bytes x were copied over the front of z.
+pub copied : (s z x : List ℕ) (span : Span) (r : Records) → Operand s span → x ≡ take (span.start + 12 * span.count - span.start) (drop span.start s)
+    → r.bytes.now ≡ x ++ drop (12 * span.count) z → r.count ≡ span.count → records_of r ≡ list_of_span s span
+copied s z x span r h q bytes count =
+    let m : span.start + 12 * span.count - span.start ≡ 12 * span.count = omega arith in
+    (λ k. records (count k) (bytes k))
+    ∙ ap (λ (l : List ℕ). records span.count (l ++ drop (12 * span.count) z)) (rw m at q)
+    ∙ copy_holds s (drop (12 * span.count) z) span.start span.count h.inside
 
 -- The rest of the store from `free` on was lent whole and came back as e.
 pub rest_lent : (s : List ℕ) (free : ℕ) (e t : List ℕ) → e ≡ t → take free s ++ (e ++ drop (length s - free) (drop free s)) ≡ take free s ++ t

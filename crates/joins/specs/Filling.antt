@@ -1,6 +1,6 @@
 -- A list built by one insertion after the other. Assumes nothing.
-use Rattle.std.specs.Prelude.{ℕ, cond, List, [], ◌∷◌, leb, length}
-use Rattle.theory.specs.Focal.{Focal}
+use Rattle.std.specs.Prelude.{ℕ, cond, Option, Some, None, List, [], ◌∷◌, leb, length}
+use Rattle.theory.specs.declared.Focal.{Focal}
 use Rattle.theory.specs.Order.{inserted}
 use Rattle.theory.specs.Limits.{most_intervals}
 
@@ -13,3 +13,7 @@ pub record Filled : Type 0 where
 abbrev pub fill : List Focal → List Focal → Filled
 fill l [] = record { list = l; count = length l }
 fill l (p ∷ ps) = cond (leb (length (inserted p l)) most_intervals) (fill (inserted p l) ps) (record { list = l; count = length (inserted p l) })
+
+-- Its length where all of ps went in, else nothing.
+abbrev pub length_of_filled : Filled → Option ℕ
+length_of_filled f = cond (leb f.count most_intervals) (Some f.count) None

@@ -1,10 +1,13 @@
 -- "Joins": the join of two lists that stand in a store, its list in the free rest. Assumes nothing.
-use Rattle.std.specs.Prelude.{ℕ, ◌+◌, ◌*◌, ◌^◌, ◌≤◌, ◌<◌, cond, List, [], map, leb, ltb, length}
+use Rattle.std.specs.Prelude.{ℕ, ◌+◌, ◌*◌, ◌^◌, ◌≤◌, ◌<◌, cond, Result, Ok, Err, List, [], map, leb, ltb, length}
 use Rattle.theory.specs.Sums.{Every}
-use Rattle.theory.specs.Focal.{Focal, listed, weights}
+use Rattle.theory.specs.Focal.{listed, weights}
+use Rattle.theory.specs.declared.Focal.{Focal}
 use Rattle.theory.specs.Masses.{rest}
 use Rattle.theory.specs.declared.Component.{Component}
 use Rattle.theory.specs.declared.Join.{Join}
+use Rattle.theory.specs.declared.Refusal.{Refusal}
+use Rattle.theory.specs.declared.Refusal.TheVariants.{ListLength}
 use Rattle.theory.specs.Joins.{joined_focal, pairs}
 use Rattle.theory.specs.Order.{collect}
 use Rattle.theory.specs.Lists.{join_lists}
@@ -12,8 +15,7 @@ use Rattle.theory.specs.Limits.{most_intervals, record_bytes, list_bytes}
 use Rattle.records.specs.Records.{records, Under, speed_limit}
 use Rattle.records.specs.Store.{list_in, holding_from}
 use Rattle.joins.specs.declared.Listing.{Listing}
-use Rattle.joins.specs.declared.Joined.{Joined}
-use Rattle.joins.specs.declared.Joined.TheVariants.{Made, Full}
+use Rattle.joins.specs.declared.Span.{Span}
 use Rattle.joins.specs.Filling.{Filled, fill}
 
 -- What putting a component's listed intervals answers: the list's length, and the rest.
@@ -24,18 +26,14 @@ listing_of c = record { count = length (collect (listed c)); rest = rest c }
 abbrev pub RestFits : Component → Type 0
 RestFits c = Every (Under speed_limit) (collect (listed c)) × (weights (collect (listed c)) + rest c < 2 ^ 64)
 
--- What a join answers whose list is l.
-abbrev pub joined_as : List Focal → Joined
-joined_as l = cond (leb (length l) most_intervals) (Made (length l)) Full
+-- What a join answers whose list is l: its length, or the refusal 14.
+abbrev pub joined_as : List Focal → Result ℕ Refusal
+joined_as l = cond (leb (length l) most_intervals) (Ok (length l)) (Err ListLength)
 
--- A join's answer as document 01 has it: its number, and the list's length.
-abbrev pub join_number : Joined → ℕ
-join_number (Made n) = 0
-join_number Full = 14
-
-abbrev pub join_length : Joined → ℕ
-join_length (Made n) = n
-join_length Full = 0
+-- The list's length as document 01 has it: 0 where the join is refused.
+abbrev pub join_length : Result ℕ Refusal → ℕ
+join_length (Ok n) = n
+join_length (Err refusal) = 0
 
 -- The number of a join whose list is l: 14 where that has more than 256 different intervals.
 abbrev pub number_of_join : List Focal → ℕ
@@ -49,30 +47,40 @@ length_of_join l = cond (ltb most_intervals (length l)) 0 (length l)
 abbrev pub row_of : Join → Focal → List Focal → List Focal
 row_of op f gs = map (joined_focal op f) gs
 
--- The row with the first nb records of b goes into the list of the first n records of out.
-abbrev pub filled_row : Join → Focal → List ℕ → ℕ → List ℕ → ℕ → Filled
-filled_row op f b nb out n = fill (records n out) (row_of op f (records nb b))
+-- The row with a list goes into the list of the first n records of out.
+abbrev pub filled_row : Join → Focal → List Focal → List ℕ → ℕ → Filled
+filled_row op f gs out n = fill (records n out) (row_of op f gs)
 
--- The pairs of two lists of a store: na records from byte `left` on, and nb from byte `right` on.
-abbrev pub pairs_in : Join → List ℕ → ℕ → ℕ → ℕ → ℕ → List Focal
-pairs_in op s left na right nb = pairs op (list_in s left na) (list_in s right nb)
+-- A list of a store.
+abbrev pub list_of_span : List ℕ → Span → List Focal
+list_of_span s span = list_in s span.start span.count
+
+-- The pairs of two lists of a store.
+abbrev pub pairs_in : Join → List ℕ → Span → Span → List Focal
+pairs_in op s left right = pairs op (list_of_span s left) (list_of_span s right)
 
 -- The list of their join.
-abbrev pub join_in : Join → List ℕ → ℕ → ℕ → ℕ → ℕ → List Focal
-join_in op s left na right nb = join_lists op (list_in s left na) (list_in s right nb)
+abbrev pub join_in : Join → List ℕ → Span → Span → List Focal
+join_in op s left right = join_lists op (list_of_span s left) (list_of_span s right)
 
 -- The store after their join: its list, as far as it was filled, stands from byte `free` on.
-abbrev pub joined_store : Join → List ℕ → ℕ → ℕ → ℕ → ℕ → ℕ → List ℕ
-joined_store op s left na right nb free = holding_from s free (fill [] (pairs_in op s left na right nb)).list
+abbrev pub joined_store : Join → List ℕ → Span → Span → ℕ → List ℕ
+joined_store op s left right free = holding_from s free (fill [] (pairs_in op s left right)).list
 
--- A list that a join can take: n records from byte `start` of a store on.
-pub record Operand (s : List ℕ) (start n : ℕ) : Type 0 where
-  pub count : n ≤ most_intervals
-  pub inside : start + record_bytes * n ≤ length s
+-- A list that a join can take.
+pub record Operand (s : List ℕ) (span : Span) : Type 0 where
+  pub count : span.count ≤ most_intervals
+  pub inside : span.start + record_bytes * span.count ≤ length s
 
 -- Two lists of a store that can be joined into its rest from byte `free` on.
-pub record Joinable (op : Join) (s : List ℕ) (left na right nb free : ℕ) : Type 0 where
-  pub first : Operand s left na
-  pub second : Operand s right nb
+pub record Joinable (op : Join) (s : List ℕ) (left right : Span) (free : ℕ) : Type 0 where
+  pub first : Operand s left
+  pub second : Operand s right
   pub room : free + list_bytes ≤ length s
-  pub fits : weights (pairs_in op s left na right nb) < 2 ^ 64
+  pub fits : weights (pairs_in op s left right) < 2 ^ 64
+
+-- So many bytes hold each of two lists.
+pub record Hold (bytes : ℕ) (left right : Span) : Type 0 where
+  pub most : bytes ≤ list_bytes
+  pub left_fits : record_bytes * left.count ≤ bytes
+  pub right_fits : record_bytes * right.count ≤ bytes

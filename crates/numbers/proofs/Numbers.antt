@@ -2,7 +2,7 @@
 use mathlib.Core.Path.{◌≡◌, refl, sym, ap, ◌∙◌}
 use mathlib.Core.List.{List, [], ◌∷◌, ◌++◌, append_assoc}
 use Prim.Native.Nat.{ℕ, zero, suc, ◌+◌, ◌*◌, ◌-◌, ◌/◌, ◌%◌, ◌^◌, ◌≤◌, ◌<◌}
-use native.Mathlib.Nat.{add-zero, lt_of_lt_of_le, pow-le-pow_right, pow-suc, div-one, div-div-eq-div-mul, mod-eq_of_lt, mod-one, add-mul, mul_assoc}
+use native.Mathlib.Nat.{add-zero, lt_of_lt_of_le, pow-le-pow_right, pow-suc, one-le-pow, div-one, div-div-eq-div-mul, mod-eq_of_lt, mod-one, add-mul, mul_assoc}
 use native.Mathlib.Numerals.{add-one}
 use native.Mathlib.Omega.{arith}
 use lib.Arith.{digits_lt, digits_div, digits_mod, mod-mul}
@@ -59,7 +59,7 @@ placed_next {s} {t} {e} {xs} {k} {m} a n ys p f h g u q =
 pub pow7 : (i : ℕ) → i ≤ 7 → 256 ^ i ≤ 72057594037927936
 pow7 i h = pow-le-pow_right (omega arith) h
 
-pub grow : (acc b i : ℕ) → acc < 256 ^ i → b < 256 → acc * 256 + b < 256 ^ (i + 1)
+grow : (acc b i : ℕ) → acc < 256 ^ i → b < 256 → acc * 256 + b < 256 ^ (i + 1)
 grow acc b i h k = rw (add-one, pow-suc) (digits_lt h k)
 
 onto_snoc : (acc : ℕ) (bs : List ℕ) (b : ℕ) → onto acc (bs ++ (b ∷ [])) ≡ onto acc bs * 256 + b
@@ -89,12 +89,9 @@ unfolding big_endian
 length-big_endian zero v = refl
 length-big_endian (suc n) v = ap suc (length-big_endian n _)
 
-pub big_endian_next : (m v : ℕ) → big_endian (m + 1) v ≡ (v / 256 ^ m) % 256 ∷ big_endian m v
+big_endian_next : (m v : ℕ) → big_endian (m + 1) v ≡ (v / 256 ^ m) % 256 ∷ big_endian m v
 unfolding big_endian
 big_endian_next m v = rw add-one
-
-pub shifted_out : (v m : ℕ) → v / 256 ^ m / 256 ≡ v / 256 ^ (m + 1)
-shifted_out v m = rw (add-one, pow-suc) (div-div-eq-div-mul v (256 ^ m) 256)
 
 -- s with the last n - i of the n bytes of v put in from `at` on.
 abbrev pub spelt : List ℕ → ℕ → ℕ → ℕ → ℕ → List ℕ
@@ -104,12 +101,17 @@ pub spelt_none : (s : List ℕ) (at n v : ℕ) → s ≡ spelt s at n v n
 unfolding big_endian
 spelt_none s at n v = let e : n - n ≡ 0 = omega arith in rw e (sym (take-append-drop (at + n) s))
 
-pub spelt_more : (s : List ℕ) (at n v i : ℕ) → i < n → at + n ≤ length s
-    → set (spelt s at n v (i + 1)) (at + i) (v / 256 ^ (n - (i + 1)) % 256) ≡ spelt s at n v i
-spelt_more s at n v i h k =
-    let e : at + (i + 1) ≡ at + i + 1 = omega arith in
-    let e2 : n - i ≡ n - (i + 1) + 1 = omega arith in
-    rw (e, e2, big_endian_next) (back s (big_endian (n - (i + 1)) v ++ drop (at + n) s) (at + i) (v / 256 ^ (n - (i + 1)) % 256) (omega arith))
+-- One byte more, before the others; what is left of v loses it.
+pub spelt_more : (s t : List ℕ) (at n v x i : ℕ) → 0 < i → i ≤ n → at + n ≤ length s → x ≡ v / 256 ^ (n - i) → t ≡ spelt s at n v i
+    → (x / 256 ≡ v / 256 ^ (n - (i - 1))) × (set t (at + (i - 1)) (x % 256) ≡ spelt s at n v (i - 1))
+spelt_more s t at n v x i f g h p q =
+    let k : ℕ = n - i in
+    let e : n - (i - 1) ≡ k + 1 = omega arith in
+    let e2 : at + i ≡ at + (i - 1) + 1 = omega arith in
+    let u : List ℕ = big_endian k v ++ drop (at + n) s in
+    let r : t ≡ take (at + (i - 1) + 1) s ++ u = rw (← e2) q in
+    rw (e, big_endian_next, p, r)
+    (rw (add-one, pow-suc) (div-div-eq-div-mul v (256 ^ k) 256), back s u (at + (i - 1)) (v / 256 ^ k % 256) (omega arith))
 
 -- ---- numbers, there and back
 
@@ -151,15 +153,12 @@ big_endian-onto acc [] h = refl
 big_endian-onto acc (b ∷ bs) h =
     rw (onto_div (acc * 256 + b) bs (λ i. h (suc i)), digits_mod acc (h zero), big_endian-onto (acc * 256 + b) bs (λ i. h (suc i)))
 
-pow_pos : (n : ℕ) → 0 < 256 ^ n
-pow_pos n = omega (arith, pow-le-pow_right {n = 256} (omega arith) {i = 0} {j = n} (omega arith))
-
 onto-big_endian : (acc n v : ℕ) → onto acc (big_endian n v) ≡ acc * 256 ^ n + v % 256 ^ n
 unfolding onto big_endian
 onto-big_endian acc zero v = rw (mod-one) (omega arith)
 onto-big_endian acc (suc n) v =
     onto-big_endian (acc * 256 + v / 256 ^ n % 256) n v
-    ∙ let h : v % (256 * 256 ^ n) ≡ (v / 256 ^ n % 256) * 256 ^ n + v % 256 ^ n = mod-mul v (omega arith) (pow_pos n) in
+    ∙ let h : v % (256 * 256 ^ n) ≡ (v / 256 ^ n % 256) * 256 ^ n + v % 256 ^ n = mod-mul v (omega arith) (one-le-pow n 256 (omega arith)) in
     let e : 256 ^ suc n ≡ 256 * 256 ^ n = rw pow-suc (omega arith) in
     rw (e, h, add-mul, mul_assoc) (omega arith)
 

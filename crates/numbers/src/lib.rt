@@ -1,22 +1,8 @@
 // Numbers in bytes, each most significant byte first.
 #![tactic(auto)]
 
-ghost use Rattle.std.specs.Prelude.{◌≡◌, ◌++◌, ◌+◌, ◌≤◌, ◌<◌, length, take, drop};
+ghost use Rattle.std.specs.Prelude.{◌≡◌, ◌++◌, ◌+◌, ◌≤◌, length, take, drop};
 ghost use Rattle.numbers.specs.Numbers.{big_endian, number_at};
-
-// A byte as a number.
-pub fn wide(x: u8) -> u64
-    ensures { (result ≡ x) × (result < 256) }
-{
-    x as u64
-}
-
-// A number of 16 bits as a wider one.
-pub fn widened(x: u16) -> u64
-    ensures { (result ≡ x) × (result < 65536) }
-{
-    x as u64
-}
 
 // The number in n bytes from `at` on, most significant first.
 pub fn read_number(s: &[u8], at: usize, n: usize) -> u64
@@ -25,12 +11,9 @@ pub fn read_number(s: &[u8], at: usize, n: usize) -> u64
     ensures { result ≡ number_at s.now at n }
 {
     let base = powers::pow2(8);
-    let end = at + n;
     let mut acc: u64 = 0;
-    let mut i = at;
-    while i < end {
-        acc = acc * base + wide(s[i]);
-        i += 1;
+    for x in &s[at..at + n] {
+        acc = acc * base + u64::from(*x);
     }
     acc
 }
@@ -41,10 +24,9 @@ pub fn write_number(s: &mut [u8], at: usize, n: usize, v: u64)
     ensures { s.new ≡ take at s.old ++ (big_endian n v ++ drop (at + n) s.old) }
 {
     let mut x = v;
-    let mut i = n;
-    while 0 < i {
-        i -= 1;
+    // Counted from 0, so that the compiler makes one store of it at a constant n.
+    for i in (0..n).rev() {
         s[at + i] = (x % 256) as u8;
-        x = x / 256;
+        x /= 256;
     }
 }

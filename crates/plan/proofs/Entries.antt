@@ -1,33 +1,30 @@
--- The entries of a structure: what a code stands for, the places of a plan, and what one entry adds to the names and to the stack.
--- Assumes nothing.
+-- The entries of a structure: what a code stands for, how often a component is named, and the places of a plan. Assumes nothing.
 use borrow.Author.Tests.{ne_eqb, lt-ltb, le-ltb, lt-leb, le-leb, leb-false}
-use mathlib.Core.Path.{◌≡◌, refl, ap, ◌∙◌}
-use mathlib.Core.Bool.{Bool, false, cond, ◌||◌}
-use mathlib.Core.List.{List, [], ◌∷◌, map}
-use Prim.Native.Nat.{ℕ, zero, suc, ◌+◌, ◌-◌, ◌≤◌, ◌<◌}
-use native.Mathlib.Nat.{add-zero}
-use native.Mathlib.Numerals.{add-one}
+use mathlib.Core.Path.{◌≡◌, refl, sym, ap, ◌∙◌}
+use mathlib.Core.Bool.{Bool, true, false, cond, ◌||◌}
+use mathlib.Core.List.{List, [], ◌∷◌, ◌++◌, map}
+use Prim.Native.Nat.{ℕ, zero, suc, ◌+◌, ◌≤◌, ◌<◌}
 use native.Mathlib.Decide.{dec_lt, ℕ_discrete}
 use native.Mathlib.Omega.{arith}
 use lib.Dec.{leb, eqb}
-use lib.ListN.{length, get_or, length-map}
+use lib.ListN.{length, get_or, take, length-map}
+use lib.Seq.{take-suc}
+use Rattle.std.specs.List.{count_by}
+use Rattle.std.proofs.lemmas.List.Recursion.{is_count_by}
 use Rattle.theory.specs.Sums.{count_of, count_from}
 use Rattle.theory.specs.Limits.{most_components, entry_count}
+use Rattle.theory.specs.Codes.{entry_of, series_code, shared_code, spare_code}
 use Rattle.theory.specs.Lists.{no_component}
 use Rattle.theory.specs.declared.Entry.{Entry}
 use Rattle.theory.specs.declared.Entry.TheVariants.{Component as component, Join as join}
-use Rattle.theory.specs.declared.Join.{Join}
 use Rattle.theory.specs.declared.Join.TheVariants.{Series, Shared, Spare}
-use Rattle.theory.specs.Structure.{named, joins_find_two}
-use Rattle.theory.proofs.Sums.{length_count, length_below}
+use Rattle.theory.specs.Structure.{named}
+use Rattle.theory.proofs.Sums.{length_count, length_below, map_count}
 use Rattle.block.proofs.Laws.{neither}
 use Rattle.plan.specs.declared.Plan.{Plan}
-use Rattle.plan.specs.Tests.{any_of}
-use Rattle.plan.specs.Plan.{component_at, components_of, codes_of, entry_of, structure_in, entries_of, series_code, shared_code, spare_code}
+use Rattle.plan.specs.Plan.{component_at, components_of, codes_of, entries_of}
 use Rattle.plan.specs.Rules.{bad_entry, bad_code, Rule9InWords}
 use Rattle.plan.specs.Valid.{Known, names, joins}
-use Rattle.plan.proofs.Loops.{from, from_next, from_end}
-use Rattle.plan.proofs.Tests.{any_map}
 
 -- What holds of the joins' codes, and of every other code as a component's number, holds of each code.
 by_code : (P : ℕ → Entry → Type 0) → P series_code (join Series) → P shared_code (join Shared) → P spare_code (join Spare)
@@ -59,11 +56,21 @@ bad_code_is n code = by_code (λ k e. bad_entry n e ≡ bad_code n k) refl refl 
       ]
     ]
 
--- The code of a component that there can be names it, and no other code does.
-pub names_code : (i code : ℕ) → i < most_components → count_of i (named (entry_of code ∷ [])) ≡ cond (eqb i code) 1 0
-names_code i code h =
-    by_code (λ k e. count_of i (named (e ∷ [])) ≡ cond (eqb i k) 1 0) (rw (ne_eqb i series_code (omega arith))) (rw (ne_eqb i shared_code (omega arith)))
-    (rw (ne_eqb i spare_code (omega arith))) code (λ a b d. add-zero _)
+-- A component that there can be is named as often as its code stands in the structure.
+pub times_named : (i : ℕ) → i < most_components → (codes : List ℕ) → count_of i (named (map entry_of codes)) ≡ count_by (eqb i) codes
+times_named i h = is_count_by (λ codes. count_of i (named (map entry_of codes))) (eqb i) refl more
+  where
+    one_more : (b : Bool) (n : ℕ) → cond b 1 0 + n ≡ cond b (1 + n) n
+    one_more true n = refl
+    one_more false n = omega arith
+
+    more : (code : ℕ) (codes : List ℕ)
+        → count_of i (named (entry_of code ∷ map entry_of codes))
+        ≡ cond (eqb i code) (1 + count_of i (named (map entry_of codes))) (count_of i (named (map entry_of codes)))
+    more code codes =
+        let n = count_of i (named (map entry_of codes)) in
+        by_code (λ k e. count_of i (named (e ∷ map entry_of codes)) ≡ cond (eqb i k) (1 + n) n) (rw (ne_eqb i series_code (omega arith)))
+        (rw (ne_eqb i shared_code (omega arith))) (rw (ne_eqb i spare_code (omega arith))) code (λ a b d. one_more (eqb i code) n)
 
 -- An entry that keeps number 9 is a component below n or a join.
 pub known_entry : (n : ℕ) (e : Entry) → bad_entry n e ≡ false → Known n e
@@ -88,6 +95,12 @@ get_d_map : {A B : Type 0} (f : A → B) (xs : List A) (i : ℕ) (a : A) (b : B)
 get_d_map f [] i a b h = absurd (omega arith)
 get_d_map f (x ∷ xs) zero a b h = refl
 get_d_map f (x ∷ xs) (suc i) a b h = get_d_map f xs i a b (omega arith)
+
+-- The front of a list is the list of its elements by their places.
+pub taken : {A : Type 0} (z : A) (xs : List A) (n : ℕ) → n ≤ length xs → take n xs ≡ map (λ j. get_or xs j z) (count_from 0 n)
+taken z xs zero h = refl
+taken z xs (suc n) h =
+    take-suc xs n z (omega arith) ∙ ap (λ l. l ++ (get_or xs n z ∷ [])) (taken z xs n (omega arith)) ∙ sym (map_count (λ j. get_or xs j z) 0 n n (omega arith))
 
 -- The list of f of each number below n.
 module _ {A : Type 0} (f : ℕ → A) (n : ℕ) where
@@ -114,48 +127,3 @@ module _ (p : Plan) where
 
   pub entry_is : (i : ℕ) → i < entry_count p.count → get_or (entries_of p) i (component 0) ≡ entry_of (get_or p.entries i 0)
   entry_is i h = get_d_map entry_of (codes_of p) i 0 (component 0) (omega (arith, codes_count)) ∙ ap entry_of (code_is i h)
-
--- A test of the entries, by their places.
-pub any_entry : (f : Entry → Bool) (s : List ℕ) (n : ℕ) → any_of f (structure_in s n) ≡ any_of (λ j. f (entry_of (get_or s j 0))) (count_from 0 (entry_count n))
-any_entry f s n =
-    any_map f entry_of (map (λ j. get_or s j 0) (count_from 0 (entry_count n)))
-    ∙ any_map (λ code. f (entry_of code)) (λ j. get_or s j 0) (count_from 0 (entry_count n))
-
--- The entries from place j on, of m.
-abbrev pub entries_from : List ℕ → ℕ → ℕ → List Entry
-entries_from s j m = map entry_of (map (λ k. get_or s k 0) (from j m))
-
-pub entries_next : (s : List ℕ) (j m : ℕ) → j < m → entries_from s j m ≡ entry_of (get_or s j 0) ∷ entries_from s (j + 1) m
-entries_next s j m h = rw (from_next j m h)
-
-pub entries_end : (s : List ℕ) (j m : ℕ) → m ≤ j → entries_from s j m ≡ []
-entries_end s j m h = rw (from_end j m h)
-
--- What one entry adds to the components that are named.
-pub names_next : (i : ℕ) (e : Entry) (es : List Entry) → count_of i (named (e ∷ es)) ≡ count_of i (named (e ∷ [])) + count_of i (named es)
-names_next i (component k) es = omega arith
-names_next i (join op) es = omega arith
-
--- What the entry at place j of m leaves of the search for a join that finds fewer than two of h lists.
-module _ (s : List ℕ) (m j h : ℕ) (l : j < m) where
-  pub find_component : {i : ℕ} → entry_of (get_or s j 0) ≡ component i → joins_find_two (entries_from s j m) h ≡ joins_find_two (entries_from s (j + 1) m) (h + 1)
-  find_component e = rw (entries_next s j m l, e, add-one h)
-
-  module _ {op : Join} (e : entry_of (get_or s j 0) ≡ join op) where
-    pub find_few : h < 2 → joins_find_two (entries_from s j m) h ≡ false
-    find_few a = rw (entries_next s j m l, e) (go h a)
-      where
-        go : (k : ℕ) → k < 2 → joins_find_two (join op ∷ entries_from s (j + 1) m) k ≡ false
-        go zero a = refl
-        go (suc zero) a = refl
-        go (suc (suc k)) a = absurd (omega arith)
-
-    pub find_two_next : 2 ≤ h → joins_find_two (entries_from s j m) h ≡ joins_find_two (entries_from s (j + 1) m) (h - 1)
-    find_two_next a = rw (entries_next s j m l, e) (go h a)
-      where
-        go : (k : ℕ) → 2 ≤ k → joins_find_two (join op ∷ entries_from s (j + 1) m) k ≡ joins_find_two (entries_from s (j + 1) m) (k - 1)
-        go zero a = absurd (omega arith)
-        go (suc zero) a = absurd (omega arith)
-        go (suc (suc k)) a =
-            let d : suc (suc k) - 1 ≡ suc k = omega arith in
-            rw d

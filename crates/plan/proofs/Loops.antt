@@ -1,10 +1,11 @@
 -- Loops over the numbers from i up to n: what is left of them at each turn. Assumes nothing.
-use mathlib.Core.Path.{◌≡◌, sym, ap, ◌∙◌}
+use mathlib.Core.Path.{◌≡◌, refl, sym, ap, ◌∙◌}
 use mathlib.Core.Bool.{Bool, true, false}
 use mathlib.Core.List.{List, [], ◌∷◌}
-use Prim.Native.Nat.{ℕ, suc, ◌+◌, ◌-◌, ◌≤◌, ◌<◌}
+use Prim.Native.Nat.{ℕ, zero, suc, ◌+◌, ◌-◌, ◌≤◌, ◌<◌}
 use native.Mathlib.Numerals.{add-one}
 use native.Mathlib.Omega.{arith}
+use Rattle.std.specs.List.{range_with_len}
 use Rattle.theory.specs.Sums.{count_from}
 use Rattle.plan.specs.Tests.{any_of}
 
@@ -26,6 +27,11 @@ pub from_end : (i n : ℕ) → n ≤ i → from i n ≡ []
 from_end i n h =
     let e : n - i ≡ 0 = omega arith in
     rw e
+
+-- The n numbers from k on, in the library's word.
+pub range_count : (k n : ℕ) → range_with_len k n ≡ count_from k n
+range_count k zero = refl
+range_count k (suc n) = rw (add-one, range_count (suc k) n)
 
 -- A search for a number below n that passes a test: the first i did not.
 pub record Searched (f : ℕ → Bool) (n i : ℕ) : Type 0 where

@@ -10,13 +10,20 @@ use native.Mathlib.Numerals.{add-one}
 use native.Mathlib.Decide.{ℕ_discrete}
 use native.Mathlib.Omega.{arith}
 use lib.Dec.{ltb}
+use Rattle.std.specs.List.{list_any, range_with_len}
 use Rattle.block.proofs.Laws.{neither}
 use Rattle.theory.specs.Sums.{count_from, Every, none, more}
 use Rattle.plan.specs.Tests.{outside, any_of}
+use Rattle.plan.proofs.Loops.{range_count}
 
 module _ {A : Type 0} where
   pub any_none : (f : A → Bool) (x : A) (xs : List A) → any_of f (x ∷ xs) ≡ false → (f x ≡ false) × (any_of f xs ≡ false)
   any_none f x xs = neither (f x) (any_of f xs)
+
+  -- The same in the library's word.
+  pub any_list : (f : A → Bool) (l : List A) → list_any f l ≡ any_of f l
+  any_list f [] = refl
+  any_list f (x ∷ l) = rw (any_list f l)
 
   -- What the failed test shows of each.
   pub every_failed : {P : A → Type 0} (f : A → Bool) (l : List A) → ((x : A) → f x ≡ false → P x) → any_of f l ≡ false → Every P l
@@ -29,6 +36,9 @@ module _ {A B : Type 0} where
   any_map f g (x ∷ l) = rw (any_map f g l)
 
 -- A test of each number below n.
+pub any_range : (f : ℕ → Bool) (n : ℕ) → list_any f (range_with_len 0 n) ≡ any_of f (count_from 0 n)
+any_range f n = any_list f (range_with_len 0 n) ∙ ap (any_of f) (range_count 0 n)
+
 pub any_below : (f : ℕ → Bool) (k n i : ℕ) → any_of f (count_from k n) ≡ false → k ≤ i → i < k + n → f i ≡ false
 any_below f k zero i e a b = absurd (omega arith)
 any_below f k (suc n) i e a b =

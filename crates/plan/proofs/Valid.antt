@@ -1,6 +1,6 @@
 -- A plan that keeps the rules meets every premise of the drive calculation. Assumes nothing.
 use borrow.Author.Tests.{ltb-true, ltb-false, eqb-true, eqb-false, not-false, lt-ltb, le-ltb, ne_eqb}
-use mathlib.Core.Path.{◌≡◌, refl, sym, ◌∙◌}
+use mathlib.Core.Path.{◌≡◌, refl}
 use mathlib.Core.Bool.{Bool, true, false, cond, not, ◌&&◌, ◌||◌, false≢true}
 use mathlib.Core.List.{List, map}
 use Prim.Native.Nat.{ℕ, zero, suc, ◌+◌, ◌-◌, ◌*◌, ◌≤◌, ◌<◌}
@@ -8,7 +8,8 @@ use native.Mathlib.Decide.{dec_lt}
 use native.Mathlib.Omega.{arith}
 use lib.Dec.{ltb, eqb}
 use Rattle.theory.specs.Sums.{count_from, count_of, Every, none, more}
-use Rattle.theory.specs.Focal.{Focal, focal_at, listed, weights, InRange, Positive}
+use Rattle.theory.specs.Focal.{focal_at, listed, weights, InRange, Positive}
+use Rattle.theory.specs.declared.Focal.{Focal}
 use Rattle.theory.specs.Masses.{times_at, Distinct}
 use Rattle.theory.specs.Limits.{top_speed, most_held, most_total, most_components}
 use Rattle.theory.specs.declared.Entry.{Entry}
@@ -20,9 +21,9 @@ use Rattle.block.proofs.Laws.{neither}
 use Rattle.plan.specs.declared.Plan.{Plan}
 use Rattle.plan.specs.Tests.{first_broken, any_of, Unbroken}
 use Rattle.plan.specs.Plan.{component_at, components_of, entries_of}
-use Rattle.plan.specs.Rules.{rule3, bad_count, rule4, bad_total, bad_alone, after, bad_interval, bad_intervals, bad_sum, bad_entry, rule9, bad_naming, rule10, rule11, rules, Counted, Sized}
+use Rattle.plan.specs.Rules.{rule3, bad_count, rule4, bad_total, bad_alone, after, bad_interval, bad_intervals, bad_sum, bad_entry, rule9, bad_naming, rule10, rule11, rules, Counted, AllHeld, Sized}
 use Rattle.plan.specs.Valid.{Known, names, joins, Valid}
-use Rattle.plan.proofs.Tests.{every_failed, any_below, any_map, within}
+use Rattle.plan.proofs.Tests.{every_failed, any_below, every_below, within}
 use Rattle.plan.proofs.Numbers.{no_number}
 use Rattle.plan.proofs.Entries.{known_entry, entries_count}
 
@@ -31,15 +32,16 @@ counted n e =
     let w = within 1 most_components n e in
     record { least = w.0; most = w.1 }
 
+pub all_held : (cs : List Component) → rule4 cs ≡ false → AllHeld cs
+unfolding rule4
+all_held cs = every_failed bad_count cs (λ c e. (within 1 most_held c.count e).1)
+
 -- 3 and 4 are kept, so everything that a plan says to use is there.
 pub sized : (p : Plan) → rule3 p.count ≡ false → rule4 (components_of p) ≡ false → Sized p
-unfolding rule4
 sized p e₃ e₄ =
-    let f : any_of (λ i. bad_count (component_at p i)) (count_from 0 p.count) ≡ false = sym (any_map bad_count (component_at p) (count_from 0 p.count)) ∙ e₄ in
     record {
       counted = counted p.count e₃;
-      held = λ i h.
-          (within 1 most_held (component_at p i).count (any_below (λ j. bad_count (component_at p j)) 0 p.count i f (omega arith) (omega arith))).1;
+      held = λ i h. every_below {P = λ c. c.count ≤ most_held} (component_at p) 0 p.count i (all_held (components_of p) e₄) (omega arith) (omega arith);
     }
 
 -- What rule 7 leaves of an interval.

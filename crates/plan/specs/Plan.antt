@@ -1,13 +1,12 @@
 -- A plan holds the same facts as a sheet, as values: the components and the structure's entries, which are the sheet's codes.
 -- Assumes nothing.
-use Rattle.std.specs.Prelude.{ℕ, cond, List, map, eqb, get_or, replicate}
+use Rattle.std.specs.Prelude.{ℕ, List, map, get_or, replicate}
 use Rattle.theory.specs.Limits.{most_components, most_entries, entry_count}
 use Rattle.theory.specs.Sums.{count_from}
 use Rattle.theory.specs.declared.Entry.{Entry}
-use Rattle.theory.specs.declared.Entry.TheVariants.{Component as component, Join as join}
+use Rattle.theory.specs.Codes.{entry_of}
 use Rattle.theory.specs.Lists.{no_component}
 use Rattle.theory.specs.declared.Component.{Component}
-use Rattle.theory.specs.declared.Join.TheVariants.{Series, Shared, Spare}
 use Rattle.block.specs.Rows.{row}
 use Rattle.block.specs.Block.{zero_component, cleaned}
 use Rattle.plan.specs.declared.Plan.{Plan}
@@ -27,28 +26,6 @@ codes_in entries n = map (λ j. get_or entries j 0) (count_from 0 (entry_count n
 -- The codes of a plan.
 abbrev pub codes_of : Plan → List ℕ
 codes_of p = codes_in p.entries p.count
-
--- The codes of the joins.
-abbrev pub series_code : ℕ
-series_code = 8
-
-abbrev pub shared_code : ℕ
-shared_code = 9
-
-abbrev pub spare_code : ℕ
-spare_code = 10
-
--- What a code stands for: a join, or else a component (number 9 refuses the codes that name none).
-abbrev pub entry_of : ℕ → Entry
-entry_of code =
-    cond (eqb code series_code) (join Series) (cond (eqb code shared_code) (join Shared) (cond (eqb code spare_code) (join Spare) (component code)))
-
--- The code of an entry.
-abbrev pub code_of : Entry → ℕ
-code_of (component i) = i
-code_of (join Series) = series_code
-code_of (join Shared) = shared_code
-code_of (join Spare) = spare_code
 
 -- The structure that codes spell.
 abbrev pub structure_in : List ℕ → ℕ → List Entry

@@ -1,7 +1,8 @@
 -- "Refusal by number", 3, 4 and 6 to 11: what is asked of a plan. Each rule is true where it is broken. Assumes nothing.
 use Rattle.std.specs.Prelude.{ℕ, ◌-◌, ◌≤◌, ◌<◌, ◌≡◌, Bool, false, not, ◌&&◌, ◌||◌, List, [], ◌∷◌, ◌++◌, ltb, leb, eqb}
-use Rattle.theory.specs.Sums.{count_from, count_of}
-use Rattle.theory.specs.Focal.{Focal, focal_at, listed, weights}
+use Rattle.theory.specs.Sums.{count_from, count_of, Every}
+use Rattle.theory.specs.Focal.{focal_at, listed, weights}
+use Rattle.theory.specs.declared.Focal.{Focal}
 use Rattle.theory.specs.Limits.{top_speed, most_held, most_total, most_components}
 use Rattle.theory.specs.declared.Entry.{Entry}
 use Rattle.theory.specs.declared.Entry.TheVariants.{Component as component, Join as join}
@@ -10,7 +11,8 @@ use Rattle.theory.specs.declared.Component.{Component}
 use Rattle.plan.specs.declared.Plan.{Plan}
 use Rattle.plan.specs.declared.Flaws.{Flaws}
 use Rattle.plan.specs.Tests.{Test, test, outside, any_of}
-use Rattle.plan.specs.Plan.{component_at, components_of, entry_of, entries_of}
+use Rattle.plan.specs.Plan.{component_at, components_of, entries_of}
+use Rattle.theory.specs.Codes.{entry_of}
 
 -- 3. The component count is not 1 to 6.
 abbrev pub rule3 : ℕ → Bool
@@ -76,23 +78,23 @@ rule11 es = not (joins_find_two es 0)
 
 -- None of 6, 7 and 8 is broken.
 abbrev pub no_flaws : Flaws
-no_flaws = record { six = false; seven = false; eight = false }
+no_flaws = record { total = false; intervals = false; weights = false }
 
 -- Which of 6, 7 and 8 a component breaks.
 abbrev pub flaws_of : Component → Flaws
-flaws_of c = record { six = bad_total c; seven = bad_intervals c; eight = bad_sum c }
+flaws_of c = record { total = bad_total c; intervals = bad_intervals c; weights = bad_sum c }
 
 -- Which of 6, 7 and 8 some component of a list breaks.
 abbrev pub flaws_in : List Component → Flaws
-flaws_in cs = record { six = any_of bad_total cs; seven = any_of bad_intervals cs; eight = any_of bad_sum cs }
+flaws_in cs = record { total = any_of bad_total cs; intervals = any_of bad_intervals cs; weights = any_of bad_sum cs }
 
 -- Which of 6, 7 and 8 are broken on one side or the other.
 abbrev pub either_flaws : Flaws → Flaws → Flaws
-either_flaws a b = record { six = a.six || b.six; seven = a.seven || b.seven; eight = a.eight || b.eight }
+either_flaws a b = record { total = a.total || b.total; intervals = a.intervals || b.intervals; weights = a.weights || b.weights }
 
 -- The tests 6, 7 and 8 of a component or of several.
 abbrev pub flaw_tests : Flaws → List Test
-flaw_tests f = test 6 f.six ∷ test 7 f.seven ∷ test 8 f.eight ∷ []
+flaw_tests f = test 6 f.total ∷ test 7 f.intervals ∷ test 8 f.weights ∷ []
 
 -- The tests 9, 10 and 11 of the structure of n components.
 abbrev pub structure_tests : ℕ → List Entry → List Test
@@ -106,6 +108,10 @@ rules p = flaw_tests (flaws_in (components_of p)) ++ structure_tests p.count (en
 pub record Counted (n : ℕ) : Type 0 where
   pub least : 1 ≤ n
   pub most : n ≤ most_components
+
+-- What rule 4 leaves of a list of components.
+abbrev pub AllHeld : List Component → Type 0
+AllHeld = Every (λ c. c.count ≤ most_held)
 
 -- What the rules 3 and 4 leave: the places that a plan says to use are there.
 pub record Sized (p : Plan) : Type 0 where

@@ -49,7 +49,8 @@ pub fn pow2(k: usize) -> u64
 }
 
 // Two to the k for k below 8: a bit's place in a byte, or fewer bits than a byte has. Each case reads the table at a fixed entry, which the
-// compiler replaces by its number; at an entry known only when it runs, the compiled code builds the table anew.
+// compiler replaces by its number; at an entry known only when it runs, the compiled code builds the table anew. Not `1 << k`: document 02
+// asks that each power of two that a field is read or written by comes from the table.
 pub fn byte_pow2(k: usize) -> u64
     requires { k ≤ 7 }
     ensures { result ≡ 2 ^ k }

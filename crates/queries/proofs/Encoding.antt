@@ -4,7 +4,7 @@ use mathlib.Core.Path.{◌≡◌, refl, ◌∙◌}
 use mathlib.Core.List.{List, [], ◌∷◌, ◌++◌, append_assoc}
 use native.Mathlib.Omega.{arith}
 use lib.ListN.{length, get_or, length-append}
-use Rattle.theory.specs.Focal.{Focal}
+use Rattle.theory.specs.declared.Focal.{Focal}
 use Rattle.numbers.specs.Numbers.{big_endian, number_at}
 use Rattle.numbers.proofs.Numbers.{length-big_endian, read_front, read_behind, read_past}
 use Rattle.queries.specs.declared.Shares.{Shares}

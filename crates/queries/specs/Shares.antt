@@ -1,13 +1,13 @@
 -- "Joins": what is asked of a list, its shares at a demand; and at each of a set of demands, as bytes, with the tests of such a set (document
 -- 02, request three). Assumes nothing.
-use Rattle.std.specs.Prelude.{ℕ, ◌*◌, ◌^◌, ◌≤◌, ◌<◌, List, [], ◌∷◌, ◌++◌, ltb, length}
+use Rattle.std.specs.Prelude.{ℕ, ◌*◌, ◌^◌, ◌<◌, List, [], ◌∷◌, ◌++◌, ltb}
 use Rattle.theory.specs.Sums.{for_each}
-use Rattle.theory.specs.Limits.{record_bytes, most_demands}
-use Rattle.theory.specs.Focal.{Focal, weights}
+use Rattle.theory.specs.Limits.{most_demands}
+use Rattle.theory.specs.Focal.{weights}
+use Rattle.theory.specs.declared.Focal.{Focal}
 use Rattle.theory.specs.Choices.{belief, plausibility}
 use Rattle.numbers.specs.Numbers.{big_endian}
 use Rattle.plan.specs.Tests.{Test, test, outside}
-use Rattle.records.specs.Records.{records}
 use Rattle.queries.specs.declared.Shares.{Shares}
 
 -- Belief and plausibility of a list at a demand.
@@ -30,7 +30,6 @@ encode_set demands l = for_each demands (λ demand. encode_shares (shares_of dem
 abbrev pub demand_tests : ℕ → ℕ → List Test
 demand_tests count bytes = test 17 (outside 1 most_demands count) ∷ test 18 (ltb bytes (shares_bytes * count)) ∷ []
 
--- What every question asks of its caller: the first n records stand in s, and their weights together fit 64 bits.
-pub record Readable (s : List ℕ) (n : ℕ) : Type 0 where
-  pub room : record_bytes * n ≤ length s
-  pub fits : weights (records n s) < 2 ^ 64
+-- What every question asks of its caller: the weights of the list together fit 64 bits.
+abbrev pub Summable : List Focal → Type 0
+Summable l = weights l < 2 ^ 64

@@ -1,10 +1,10 @@
 -- The test of a target, and what the search for a speed asks of its caller; the speed is theory's `speed_for`. Assumes nothing.
-use Rattle.std.specs.Prelude.{ℕ, ◌≤◌, ◌<◌, List, [], ◌∷◌}
+use Rattle.std.specs.Prelude.{ℕ, ◌≤◌, ◌<◌, List, [], ◌∷◌, length}
 use Rattle.theory.specs.Limits.{thousandths}
 use Rattle.theory.specs.Order.{InOrder}
 use Rattle.plan.specs.Tests.{Test, test, outside}
-use Rattle.records.specs.Records.{records}
-use Rattle.queries.specs.Shares.{Readable}
+use Rattle.theory.specs.declared.Focal.{Focal}
+use Rattle.queries.specs.Shares.{Summable}
 
 -- 16: the target is not 1 to 1,000.
 abbrev pub target_tests : ℕ → List Test
@@ -16,8 +16,8 @@ pub record ValidTarget (target total : ℕ) : Type 0 where
   pub most : target ≤ thousandths
   pub total_positive : 0 < total
 
--- The first n records of s can be read and are in order. A list that is not empty is asked with a valid target.
-pub record Searchable (s : List ℕ) (n target total : ℕ) : Type 0 where
-  pub readable : Readable s n
-  pub ordered : InOrder (records n s)
-  pub asked : 0 < n → ValidTarget target total
+-- A list whose weights fit and that is in order. One that is not empty is asked with a valid target.
+pub record Searchable (l : List Focal) (target total : ℕ) : Type 0 where
+  pub summable : Summable l
+  pub ordered : InOrder l
+  pub asked : 0 < length l → ValidTarget target total

@@ -4,14 +4,15 @@
 
 ghost use Rattle.std.specs.Prelude.{◌≡◌, cond, ◌++◌, ◌+◌, ◌*◌, ◌≤◌, leb, length, take, drop};
 ghost use Rattle.theory.specs.Limits.{thousandths};
+ghost use Rattle.theory.specs.Refusals.{number_in};
 ghost use Rattle.theory.specs.Speed.{meets, speed_for};
 ghost use Rattle.plan.specs.Tests.{first_broken};
-ghost use Rattle.records.specs.Records.{records};
-ghost use Rattle.queries.specs.Shares.{shares_of, shares_bytes, encode_shares, encode_set, demand_tests, Readable};
+ghost use Rattle.records.specs.Records.{records_of};
+ghost use Rattle.queries.specs.Shares.{shares_of, shares_bytes, encode_shares, encode_set, demand_tests, Summable};
 ghost use Rattle.queries.specs.Speed.{target_tests, Searchable};
 
-use records::SPEED_LIMIT;
-use theory::THOUSANDTHS;
+use records::Records;
+use theory::{MOST_DEMANDS, Refusal, THOUSANDTHS};
 
 // The bytes of the two shares at one demand.
 pub const SHARES_BYTES: usize = 16;
@@ -24,26 +25,23 @@ pub struct Shares {
 }
 
 // What an interval's weight counts at a demand, by one of its ends.
-fn counted(end: u64, weight: u64, demand: u64) -> u64
+fn counted(end: u16, weight: u64, demand: u64) -> u64
     ensures { result ≡ cond (leb demand end) weight 0 }
 {
-    if demand <= end { weight } else { 0 }
+    if demand <= u64::from(end) { weight } else { 0 }
 }
 
-// Belief and plausibility of the first n records at a demand.
-pub fn shares_at(s: &[u8], n: usize, demand: u64) -> Shares
-    requires { Readable s.now n }
-    ensures { result ≡ shares_of demand (records n s.now) }
+// Belief and plausibility of a list at a demand.
+pub fn shares_at(list: Records, demand: u64) -> Shares
+    requires { Summable (records_of list) }
+    ensures { result ≡ shares_of demand (records_of list.entry) }
 {
     let mut belief: u64 = 0;
     let mut plausibility: u64 = 0;
-    let mut i = 0;
-    while i < n {
-        let key = records::key_at(s, i);
-        let weight = records::weight_at(s, i);
-        belief += counted(key / SPEED_LIMIT, weight, demand);
-        plausibility += counted(key % SPEED_LIMIT, weight, demand);
-        i += 1;
+    for i in 0..list.count {
+        let f = list.get(i);
+        belief += counted(f.low, f.weight, demand);
+        plausibility += counted(f.high, f.weight, demand);
     }
     Shares {
         belief,
@@ -51,13 +49,12 @@ pub fn shares_at(s: &[u8], n: usize, demand: u64) -> Shares
     }
 }
 
-// The number of a set of `count` demands with `bytes` bytes for their shares: 17 unless there are 1 to 16, then 18 unless each has 16 bytes.
-pub fn demands_number(count: usize, bytes: usize) -> u8
-    ensures { result ≡ first_broken (demand_tests count bytes) }
+// The tests of a set of `count` demands with `bytes` bytes for their shares: 17 unless there are 1 to 16, then 18 unless each has 16 bytes.
+pub fn test_demands(count: usize, bytes: usize) -> Result<(), Refusal>
+    ensures { number_in result ≡ first_broken (demand_tests count bytes) }
 {
-    let uncounted = plan::either(count < 1, theory::MOST_DEMANDS < count);
-    let short = bytes / SHARES_BYTES < count;
-    plan::first(17, uncounted, plan::first(18, short, 0))
+    Refusal::DemandCount.when(!(1..=MOST_DEMANDS).contains(&count))?;
+    Refusal::SharesRoom.when(bytes / SHARES_BYTES < count)
 }
 
 // Writes the shares at place i.
@@ -69,25 +66,22 @@ fn put_shares(out: &mut [u8], i: usize, shares: Shares)
     numbers::write_number(out, SHARES_BYTES * i + 8, 8, shares.plausibility);
 }
 
-// Writes the shares of the first n records at each demand, in the order asked. The list is walked once for each.
-pub fn put_set(s: &[u8], n: usize, demands: &[u32], out: &mut [u8])
-    requires readable { Readable s.now n }
+// Writes the shares of a list at each demand, in the order asked. The list is walked once for each.
+pub fn put_set(list: Records, demands: &[u32], out: &mut [u8])
+    requires summable { Summable (records_of list) }
     requires demands_in_bounds { shares_bytes * length demands.now ≤ length out.old }
-    ensures { out.new ≡ encode_set demands.now (records n s.now) ++ drop (shares_bytes * length demands.now) out.old }
+    ensures { out.new ≡ encode_set demands.now (records_of list.entry) ++ drop (shares_bytes * length demands.now) out.old }
 {
-    let m = demands.len();
-    for i in 0..m {
-        let demand = demands[i] as u64;
-        let shares = shares_at(s, n, demand);
-        put_shares(out, i, shares);
+    for (i, demand) in demands.iter().enumerate() {
+        put_shares(out, i, shares_at(list, u64::from(*demand)));
     }
 }
 
-// The number of a target: 16 unless it is 1 to 1,000.
-pub fn target_number(target: u32) -> u8
-    ensures { result ≡ first_broken (target_tests target) }
+// The test of a target: 16 unless it is 1 to 1,000.
+pub fn test_target(target: u32) -> Result<(), Refusal>
+    ensures { number_in result ≡ first_broken (target_tests target) }
 {
-    plan::first(16, plan::either(target < 1, THOUSANDTHS < target as u64), 0)
+    Refusal::Target.when(!(1..=THOUSANDTHS).contains(&u64::from(target)))
 }
 
 // Whether a share is at least `target` thousandths of the total. Their product does not fit 64 bits; a thousandth of it, rounded up, does.
@@ -95,27 +89,29 @@ fn target_met(share: u64, target: u32, total: u64) -> bool
     requires { target ≤ thousandths }
     ensures { result ≡ meets target total share }
 {
-    let t = target as u64;
+    let t = u64::from(target);
     let quotient = t * (total / THOUSANDTHS);
     let rest = t * (total % THOUSANDTHS);
-    quotient + (rest + (THOUSANDTHS - 1)) / THOUSANDTHS <= share
+    quotient + rest.div_ceil(THOUSANDTHS) <= share
 }
 
-// The speed for a target, 0 where no low meets it. The lows of the first n records are tried from the front, the fastest first, and the
-// first that meets the target ends the search. Records with one low are tried one after the other: the low, and so the answer, is the same.
-pub fn speed_for(s: &[u8], n: usize, target: u32, total: u64) -> u64
-    requires { Searchable s.now n target total }
-    ensures { result ≡ speed_for target total (records n s.now) }
+// The speed for a target, 0 where no low meets it. The lows of the list are tried from the front, the fastest first, and the first that
+// meets the target ends the search. Records with one low are tried one after the other: the low, and so the answer, is the same.
+pub fn speed_for(list: Records, target: u32, total: u64) -> u64
+    requires { Searchable (records_of list) target total }
+    ensures { result ≡ speed_for target total (records_of list.entry) }
 {
     let mut belief: u64 = 0;
     let mut i = 0;
+    // A `for` yields no value by `break`.
     loop {
-        if i == n {
+        if i == list.count {
             break 0;
         }
-        belief += records::weight_at(s, i);
+        let f = list.get(i);
+        belief += f.weight;
         if target_met(belief, target, total) {
-            break records::key_at(s, i) / SPEED_LIMIT;
+            break u64::from(f.low);
         }
         i += 1;
     }

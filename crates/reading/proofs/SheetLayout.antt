@@ -1,8 +1,8 @@
 -- What stands behind a sheet's head: numbers 4 and 5 of it, and the plan that it spells. Assumes nothing.
 use borrow.Author.Tests.{not-false, eqb-true, ltb-false}
 use mathlib.Core.Path.{◌≡◌, refl}
-use mathlib.Core.Bool.{Bool, true, false, not, ◌||◌}
-use mathlib.Core.List.{List, [], ◌∷◌, ◌++◌}
+use mathlib.Core.Bool.{false, not}
+use mathlib.Core.List.{List, ◌++◌}
 use Prim.Native.Nat.{ℕ, zero, suc, ◌+◌, ◌*◌, ◌≤◌, ◌<◌}
 use native.Mathlib.Omega.{arith}
 use lib.ListN.{length}
@@ -10,30 +10,29 @@ use lib.Dec.{ltb, eqb}
 use Rattle.theory.specs.Sums.{Every, none, more}
 use Rattle.theory.specs.Limits.{most_components, entry_count}
 use Rattle.theory.specs.Lists.{no_component}
-use Rattle.field.specs.Bits.{field_at}
-use Rattle.field.proofs.Field.{field_lt}
+use Rattle.field.proofs.FieldLaws.{field_lt}
 use Rattle.block.proofs.Rows.{row_used}
 use Rattle.block.proofs.Laws.{neither}
 use Rattle.block.specs.Block.{component_in, zero_component}
 use Rattle.plan.specs.declared.Plan.{Plan}
 use Rattle.plan.specs.Plan.{component_at, components_of, structure_in}
-use Rattle.plan.specs.Tests.{Test, test, first_broken, Unbroken}
+use Rattle.plan.specs.Tests.{first_broken, Unbroken}
 use Rattle.plan.specs.Rules.{flaw_tests, structure_tests, rules, Counted}
 use Rattle.plan.proofs.Tests.{map_below}
 use Rattle.plan.proofs.Numbers.{no_number}
 use Rattle.plan.proofs.Valid.{counted}
 use Rattle.reading.specs.declared.Blocks.{Blocks}
-use Rattle.reading.specs.Reading.{component_count, length_in, head_tests, head_of, head_in, layout_tests, start_of, block_at, entries_at, plan_in, any_cut, bad_layout, bad_zeros, block_components, uncut_blocks, blocks_in}
-use Rattle.reading.proofs.BlocksRead.{blocks_none, blocks_uncut, starts_within}
+use Rattle.reading.specs.Reading.{component_count, length_in, head_tests, head_of, head_in, start_of, block_at, entries_at, plan_in, any_cut, bad_layout, block_components, uncut_blocks}
+
+-- The number of what a head answers.
+pub head_of_number : (k n : ℕ) → (head_of k n).number ≡ k
+head_of_number zero n = refl
+head_of_number (suc k) n = refl
 
 module _ (s : List ℕ) where
   pub head_number : (head_in s).number ≡ first_broken (head_tests s)
   unfolding head_in
-  head_number = go (first_broken (head_tests s))
-    where
-      go : (k : ℕ) → (head_of k (component_count s)).number ≡ k
-      go zero = refl
-      go (suc k) = refl
+  head_number = head_of_number (first_broken (head_tests s)) (component_count s)
 
   pub head_count : first_broken (head_tests s) ≡ 0 → (head_in s).count ≡ component_count s
   unfolding head_in
@@ -69,36 +68,13 @@ unfolding plan_in
 components_are s l =
     map_below (component_at (plan_in s)) (λ i. component_in (block_at s i)) 0 (component_count s) (λ i a b. component_is s i (omega arith) l)
 
--- The tests 4 and 5 of n blocks that were read up to byte e.
-abbrev pub layout_by : List ℕ → ℕ → Bool → Bool → ℕ → List Test
-layout_by s n cut nonzero e =
-    test 4 (cut || not (eqb (e + n) (length s)))
-    ∷ test 5 (nonzero || not (eqb (field_at s (8 * e + 4 * entry_count n) 4) 0))
-    ∷ []
-
 module _ (s : List ℕ) (n : ℕ) (en : n ≡ component_count s) where
-  pub layout_is : {cut nonzero : Bool} {e : ℕ} → cut ≡ (blocks_in s n).cut → nonzero ≡ (blocks_in s n).nonzero → e ≡ (blocks_in s n).end
-      → first_broken (layout_by s n cut nonzero e) ≡ first_broken (layout_tests s)
-  unfolding bad_layout bad_zeros
-  layout_is {cut} {nonzero} {e} a b d = go (any_cut s n) refl
-    where
-      go : (x : Bool) → any_cut s n ≡ x → first_broken (layout_by s n cut nonzero e) ≡ first_broken (layout_tests s)
-      go true x = rw (a, blocks_none s n x, ← en, x)
-      go false x = rw (a, b, d, blocks_uncut s n x, ← en, x)
-
-  pub blocks_end : 2 ≤ length s → (blocks_in s n).end ≤ length s
-  blocks_end h = go (any_cut s n) refl
-    where
-      go : (b : Bool) → any_cut s n ≡ b → (blocks_in s n).end ≤ length s
-      go true d = rw (blocks_none s n d) (omega arith)
-      go false d = rw (blocks_uncut s n d) (starts_within s n h d)
-
-  -- Where 4 is kept, no block is cut short.
-  pub layout_uncut : bad_layout s ≡ false → (any_cut s n ≡ false) × (start_of s n + n ≡ length s)
+  -- Where 4 is kept, n bytes stand behind the last block.
+  pub layout_ends : bad_layout s ≡ false → start_of s n + n ≡ length s
   unfolding bad_layout
-  layout_uncut z =
+  layout_ends z =
       let b = neither (any_cut s (component_count s)) (not (eqb (start_of s (component_count s) + component_count s) (length s))) z in
-      (rw en b.0, rw en (eqb-true _ _ (not-false _ b.1)))
+      rw en (eqb-true _ _ (not-false _ b.1))
 
   -- What is read where no block is cut short.
   module _ (r : Blocks) (w : r ≡ uncut_blocks s n) (es : List ℕ) (d : es ≡ entries_at s (8 * r.end) (entry_count n)) where

@@ -1,8 +1,10 @@
 -- What a sheet reads as: the first of the numbers 1 to 11 that applies, each about the whole sheet, or 0 and the plan. Assumes nothing.
-use Rattle.std.specs.Prelude.{ℕ, zero, suc, ◌+◌, ◌*◌, ◌≤◌, ◌<◌, ◌≡◌, Bool, true, false, cond, not, ◌||◌, ◌↔◌, List, [], ◌∷◌, ◌++◌, map, ltb, eqb, length, drop, replicate}
+use Rattle.std.specs.Prelude.{ℕ, zero, suc, ◌+◌, ◌*◌, ◌≤◌, ◌<◌, ◌≡◌, Bool, cond, not, ◌||◌, ◌↔◌, Option, Some, None, Result, Ok, Err, List, [], ◌∷◌, ◌++◌, map, ltb, eqb, length, drop}
 use Rattle.theory.specs.Sums.{count_from, Every}
 use Rattle.theory.specs.Limits.{most_components, most_entries, entry_count}
 use Rattle.theory.specs.declared.Component.{Component}
+use Rattle.theory.specs.declared.Refusal.{Refusal}
+use Rattle.theory.specs.Refusals.{refusal_number}
 use Rattle.field.specs.Bits.{field_at}
 use Rattle.block.specs.Rows.{row}
 use Rattle.block.specs.Block.{size_of, count_in, cut_short, bad_zero_bits, zero_component, component_in}
@@ -10,10 +12,8 @@ use Rattle.plan.specs.declared.Plan.{Plan}
 use Rattle.plan.specs.Tests.{Test, test, first_broken, any_of, Unbroken, First}
 use Rattle.plan.specs.Sheet.{head_bytes, edition, edition_bits, component_count_bits, length_bits, entry_bits}
 use Rattle.plan.specs.Plan.{zero_plan}
-use Rattle.plan.specs.Rules.{rule3, no_flaws, flaws_of, flaws_in, flaw_tests, rules, Counted}
-use Rattle.reading.specs.declared.Head.{Head}
+use Rattle.plan.specs.Rules.{rule3, flaws_of, flaws_in, flaw_tests, rules, Counted}
 use Rattle.reading.specs.declared.Blocks.{Blocks}
-use Rattle.reading.specs.declared.Reading.{Reading}
 
 -- The edition in a sheet's head.
 abbrev pub edition_in : List ℕ → ℕ
@@ -101,10 +101,20 @@ sheet_tests s = head_tests s ++ (layout_tests s ++ rules (plan_in s))
 abbrev pub block_tests : List ℕ → List Test
 block_tests s = test 5 (bad_zero_bits s) ∷ flaw_tests (flaws_of (component_in s))
 
+-- What a sheet reads as: the number and a plan.
+pub record Reading : Type 0 where
+  pub number : ℕ
+  pub plan : Plan
+
 -- An accepted sheet's plan; a refused sheet reads as a plan of zeros.
 abbrev pub reading : ℕ → Plan → Reading
 reading zero p = record { number = 0; plan = p }
 reading (suc k) p = record { number = suc k; plan = zero_plan }
+
+-- The number and the plan of each case of the reader's answer.
+abbrev pub reading_as : Result Plan Refusal → Reading
+reading_as (Ok p) = reading 0 p
+reading_as (Err refusal) = reading (refusal_number refusal) zero_plan
 
 -- What a sheet reads as.
 unfoldable pub read_of : List ℕ → Reading
@@ -120,9 +130,18 @@ pub record Decided (s : List ℕ) : Type 0 where
   pub zeros : (k : ℕ) → 0 < k → (read_of s).number ≡ k → (read_of s).plan ≡ zero_plan
 
 -- What the reader's parts find. The head: its number and the count 0, or 0 and the count.
+pub record Head : Type 0 where
+  pub number : ℕ
+  pub count : ℕ
+
 abbrev pub head_of : ℕ → ℕ → Head
 head_of zero n = record { number = 0; count = n }
 head_of (suc k) n = record { number = suc k; count = 0 }
+
+-- The same of each case of what reading a head answers.
+abbrev pub head_as : Result ℕ Refusal → Head
+head_as (Ok n) = head_of 0 n
+head_as (Err refusal) = head_of (refusal_number refusal) 0
 
 unfoldable pub head_in : List ℕ → Head
 head_in s = head_of (first_broken (head_tests s)) (component_count s)
@@ -132,27 +151,18 @@ abbrev pub uncut_blocks : List ℕ → ℕ → Blocks
 uncut_blocks s n =
     record {
       components = components_in s n;
-      cut = false;
       nonzero = any_nonzero s n;
       flaws = flaws_in (block_components s n);
       end = start_of s n;
     }
 
--- The same where one is cut short.
-abbrev pub no_blocks : Blocks
-no_blocks =
-    record { components = replicate most_components zero_component; cut = true; nonzero = false; flaws = no_flaws; end = 0 }
-
--- The first n blocks in either case.
-unfoldable pub blocks_in : List ℕ → ℕ → Blocks
-blocks_in s n = cond (any_cut s n) no_blocks (uncut_blocks s n)
+-- The first n blocks: none where one is cut short.
+unfoldable pub blocks_in : List ℕ → ℕ → Option Blocks
+blocks_in s n = cond (any_cut s n) None (Some (uncut_blocks s n))
 
 -- What the layout's tests are told of a sheet that keeps 1 to 3 and of its blocks.
-pub record BlocksFound (s : List ℕ) (n : ℕ) (cut nonzero : Bool) (end : ℕ) : Type 0 where
+pub record BlocksFound (s : List ℕ) (n : ℕ) (blocks : Option Blocks) : Type 0 where
   pub count : n ≡ component_count s
   pub counted : Counted n
   pub short : length s ≤ 255
-  pub cut_is : cut ≡ (blocks_in s n).cut
-  pub nonzero_is : nonzero ≡ (blocks_in s n).nonzero
-  pub end_is : end ≡ (blocks_in s n).end
-  pub inside : end ≤ length s
+  pub found : blocks ≡ blocks_in s n

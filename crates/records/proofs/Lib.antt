@@ -1,6 +1,5 @@
 -- What is proved of bytes, records and lists beside the functions.
-pub mod Bytes
-pub mod Records
+pub mod RecordLaws
 pub mod Place
 pub mod Inserting
 pub mod Store

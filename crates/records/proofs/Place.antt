@@ -4,7 +4,7 @@ use mathlib.Core.Path.{◌≡◌, refl, sym, ap, ◌∙◌}
 use mathlib.Core.Bool.{Bool, true, false, cond}
 use mathlib.Core.Logic.{⊎_elim, inl, inr}
 use mathlib.Core.List.{List, [], ◌∷◌, ◌++◌}
-use Prim.Native.Nat.{ℕ, zero, suc, ◌≤◌, ◌<◌, Ordering}
+use Prim.Native.Nat.{ℕ, zero, suc, ◌+◌, ◌≤◌, ◌<◌, Ordering}
 use native.Mathlib.Nat.{not-suc-le-zero, le_of_suc-le-suc, eq-or-lt_of_le}
 use native.Mathlib.Omega.{arith}
 use lib.Dec.{ltb, eqb, compare_is_eq}
@@ -12,15 +12,17 @@ use lib.ListN.{length, take, drop, take-append-drop, drop_of_length-le}
 use lib.Seq.{drop-cons}
 use borrow.Author.Tests.{lt-ltb, le-ltb, eq-eqb, ne_eqb}
 use Rattle.theory.specs.Sums.{Every}
-use Rattle.theory.specs.Focal.{Focal, no_focal}
-use Rattle.theory.specs.Order.{order, Before, InOrder, inserted, merged}
+use Rattle.theory.specs.Focal.{focal, no_focal}
+use Rattle.theory.specs.declared.Focal.{Focal}
+use Rattle.theory.specs.Order.{order, Before, InOrder, inserted}
 use Rattle.theory.proofs.Order.{Placed, placed, before_trans, order_before}
 use Rattle.theory.proofs.Every.{index_of_every}
 use Rattle.theory.proofs.Lists.{insert_skip, insert_here, insert_same}
 use Rattle.numbers.specs.Numbers.{Bytes}
-use Rattle.records.specs.Records.{key_of, keyed, with_weight, record_at, records, speed_limit}
+use Rattle.records.specs.Records.{key_of, keyed, record_at, records_of, speed_limit}
+use Rattle.records.specs.declared.view.Records.{Records}
 use Rattle.records.specs.Insertion.{is_before, place}
-use Rattle.records.proofs.Records.{interval_at, length-records, records_at, record_under}
+use Rattle.records.proofs.RecordLaws.{interval_at, length-records, records_at, record_under}
 
 -- ---- what the order of two intervals says
 
@@ -66,13 +68,17 @@ key_tests s i key b =
 
 -- ---- the place
 
-place_within : (f : Focal) (l : List Focal) → place f l ≤ length l
+pub place_within : (f : Focal) (l : List Focal) → place f l ≤ length l
 place_within f [] = omega arith
 place_within f (g ∷ gs) = go (is_before (order g f)) (place_within f gs)
   where
     go : (b : Bool) → place f gs ≤ length gs → cond b (suc (place f gs)) 0 ≤ suc (length gs)
     go true h = omega arith
     go false h = omega arith
+
+-- An interval with another weight.
+abbrev pub with_weight : Focal → ℕ → Focal
+with_weight f weight = focal f.low f.high weight
 
 -- The place does not go by the weight.
 pub place-weight : (f : Focal) (weight : ℕ) (l : List Focal) → place f l ≡ place (with_weight f weight) l
@@ -116,16 +122,19 @@ place_above f (InOrder.more {f = g} {fs = gs} b r) (suc m) h e =
     let p : Before g f = before_trans g (interval_at gs m) f (index_of_every no_focal b m (le_of_suc-le-suc h)) (before_true (interval_at gs m) f e) in
     rw (ap is_before (order_before g f p)) (omega arith)
 
--- The same holds of record m of a buffer.
-module _ (n : ℕ) (s : List ℕ) (f : Focal) where
-  pub tested_above : InOrder (records n s) → (m : ℕ) → m < n → is_before (order (record_at s m) f) ≡ true → m < place f (records n s)
-  tested_above o m h e = place_above f o m (rw length-records h) (ap (λ (g : Focal). is_before (order g f)) (records_at n m s h) ∙ e)
+-- So does the answer of a test of record m of a list.
+pub tested_above : (r : Records) (key m : ℕ) {b : Bool} → InOrder (records_of r) → m < r.count → b ≡ is_before (order (record_at r.bytes.now m) (keyed key 0)) → b ≡ true
+    → m < place (keyed key 0) (records_of r)
+tested_above r key m o h e t =
+    place_above (keyed key 0) o m (rw length-records h) (ap (λ (g : Focal). is_before (order g (keyed key 0))) (records_at r.count m r.bytes.now h) ∙ sym e ∙ t)
 
-  pub tested_below : (m : ℕ) → m < n → is_before (order (record_at s m) f) ≡ false → place f (records n s) ≤ m
-  tested_below m h e = place_below f (records n s) m (rw length-records h) (ap (λ (g : Focal). is_before (order g f)) (records_at n m s h) ∙ e)
+pub tested_below : (r : Records) (key m : ℕ) {b : Bool} → m < r.count → b ≡ is_before (order (record_at r.bytes.now m) (keyed key 0)) → b ≡ false
+    → place (keyed key 0) (records_of r) ≤ m
+tested_below r key m h e t =
+    place_below (keyed key 0) (records_of r) m (rw length-records h) (ap (λ (g : Focal). is_before (order g (keyed key 0))) (records_at r.count m r.bytes.now h) ∙ sym e ∙ t)
 
-  pub place_count : place f (records n s) ≤ n
-  place_count = omega (arith, place_within f (records n s), length-records n s)
+pub place_count : (f : Focal) (r : Records) → place f (records_of r) ≤ r.count
+place_count f r = omega (arith, place_within f (records_of r), length-records r.count r.bytes.now)
 
 -- ---- an insertion, from the place
 
@@ -133,12 +142,14 @@ split : (f : Focal) (l : List Focal) → inserted f l ≡ take (place f l) l ++ 
 split f l = ap (inserted f) (sym (take-append-drop (place f l) l)) ∙ insert_skip f (place_front f l) (drop (place f l) l)
 
 pub insert_met : (f : Focal) (l : List Focal) → place f l < length l → compare_is_eq (order (interval_at l (place f l)) f) ≡ true
-    → inserted f l ≡ take (place f l) l ++ (merged f (interval_at l (place f l)) ∷ drop (suc (place f l)) l)
+    → inserted f l ≡ take (place f l) l ++ (with_weight f (f.weight + (interval_at l (place f l)).weight) ∷ drop (suc (place f l)) l)
 insert_met f l h e =
     let p : ℕ = place f l in
     let g : Focal = interval_at l p in
     let s : (g.low ≡ f.low) × (g.high ≡ f.high) = same_true g f e in
-    split f l ∙ ap (λ (k : List Focal). take p l ++ k) (ap (inserted f) (drop-cons l p no_focal h) ∙ insert_same f g (sym s.0) (sym s.1) (drop (suc p) l))
+    split f l
+    ∙ ap (λ (k : List Focal). take p l ++ k) (ap (inserted f) (drop-cons l p no_focal h) ∙ insert_same f g (sym s.0) (sym s.1) (drop (suc p) l))
+    ∙ (λ i. take p l ++ (focal (s.0 i) (s.1 i) (f.weight + g.weight) ∷ drop (suc p) l))
 
 pub insert_new : (f : Focal) (l : List Focal) → (place f l < length l → compare_is_eq (order (interval_at l (place f l)) f) ≡ false)
     → inserted f l ≡ take (place f l) l ++ (f ∷ drop (place f l) l)

@@ -6,13 +6,15 @@ use Prim.Native.Nat.{ℕ, zero, suc, ◌+◌, ◌*◌, ◌-◌, ◌^◌, ◌≤�
 use native.Mathlib.Omega.{arith}
 use lib.ListN.{length, take, drop, length-append, length-drop, take-append-drop, replicate}
 use lib.Seq.{drop-drop, drop_at, length-take-le, take_at, take-append-le, drop-append-le, drop-append-add}
+use Rattle.std.specs.List.{copy_within}
 use Rattle.theory.specs.Sums.{Every}
-use Rattle.theory.specs.Focal.{Focal, weights}
+use Rattle.theory.specs.Focal.{weights}
+use Rattle.theory.specs.declared.Focal.{Focal}
 use Rattle.numbers.specs.Numbers.{number_at, Bytes}
 use Rattle.numbers.proofs.Numbers.{bytes_drop}
 use Rattle.records.specs.Records.{encode, head_record, records, Under, speed_limit}
-use Rattle.records.specs.Store.{moved_to_front, zeroed, holding, list_in, holding_from, settled}
-use Rattle.records.proofs.Records.{encode-records, length-encode, length-records, records-encode}
+use Rattle.records.specs.Store.{zeroed, holding, list_in, holding_from, settled}
+use Rattle.records.proofs.RecordLaws.{encode-records, length-encode, length-records, records-encode}
 
 -- ---- the first n records lie in the first 12 * n bytes
 
@@ -86,13 +88,15 @@ module _ (s : List ℕ) (free : ℕ) (l : List Focal) where
 
 -- ---- the list at the front
 
-pub settles : (s t : List ℕ) (start n end : ℕ) → Bytes s → start + 12 * n ≤ length s → 12 * n ≤ end → t ≡ moved_to_front s start (12 * n)
+pub settles : (s t : List ℕ) (start n end : ℕ) → Bytes s → start + 12 * n ≤ length s → 12 * n ≤ end → t ≡ copy_within s start (start + 12 * n) 0
     → zeroed t (12 * n) end ≡ settled end (list_in s start n) s
 settles s t start n end b h k e =
     let l : List Focal = list_in s start n in
     let ln : length l ≡ n = length-records n (drop start s) in
     let bytes : encode l ≡ take (12 * n) (drop start s) = encode-records n (drop start s) (bytes_drop start s b) (rw length-drop (omega arith)) in
-    let q : t ≡ holding s l = e ∙ (λ i. sym bytes i ++ drop (12 * sym ln i) s) in
+    let e1 : start + 12 * n - start ≡ 12 * n = omega arith in
+    let e2 : 0 + (start + 12 * n - start) ≡ 12 * length l = omega arith in
+    let q : t ≡ holding s l = e ∙ (λ i. take (e1 i) (drop start s) ++ drop (e2 i) s) ∙ ap (λ (x : List ℕ). x ++ drop (12 * length l) s) (sym bytes) in
     let front : take (12 * n) t ≡ encode l = ap (take (12 * n)) q ∙ take_at (encode l) (drop (12 * length l) s) (12 * n) (rw (length-encode, ln)) in
     let back : drop end t ≡ drop end s = ap (drop end) q ∙ holding_behind s l end (omega arith) in
     λ i. front i ++ (replicate (end - 12 * sym ln i) 0 ++ back i)

@@ -2,13 +2,11 @@
 -- first. Assumes nothing.
 use Rattle.std.specs.Prelude.{ℕ, zero, suc, ◌+◌, ◌*◌, ◌/◌, ◌%◌, ◌^◌, ◌<◌, List, [], ◌∷◌, ◌++◌, drop}
 use Rattle.theory.specs.Sums.{Every}
-use Rattle.theory.specs.Focal.{Focal, focal, weights}
+use Rattle.theory.specs.Focal.{focal, weights}
+use Rattle.theory.specs.declared.Focal.{Focal}
 use Rattle.theory.specs.Limits.{record_bytes}
 use Rattle.numbers.specs.Numbers.{big_endian, number_at}
-
--- An interval with another weight.
-abbrev pub with_weight : Focal → ℕ → Focal
-with_weight f weight = focal f.low f.high weight
+use Rattle.records.specs.declared.view.Records.{Records}
 
 -- The bytes of a record.
 unfoldable pub bytes_of : Focal → List ℕ
@@ -31,6 +29,10 @@ record_at s i = head_record (drop (record_bytes * i) s)
 unfoldable pub records : ℕ → List ℕ → List Focal
 records zero s = []
 records (suc n) s = head_record s ∷ records n (drop record_bytes s)
+
+-- The list that records are.
+abbrev pub records_of : Records → List Focal
+records_of r = records r.count r.bytes.now
 
 -- Low and high take 16 bits each, so a record holds speeds below this.
 abbrev pub speed_limit : ℕ

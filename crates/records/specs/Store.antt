@@ -1,6 +1,6 @@
 -- "Pairs, allowance and store": bytes moved, cleared and written in a buffer, and lists that stand in it. Assumes nothing.
 use Rattle.std.specs.Prelude.{ℕ, ◌+◌, ◌*◌, ◌-◌, List, ◌++◌, length, take, drop, replicate}
-use Rattle.theory.specs.Focal.{Focal}
+use Rattle.theory.specs.declared.Focal.{Focal}
 use Rattle.theory.specs.Limits.{record_bytes}
 use Rattle.records.specs.Records.{bytes_of, encode, records}
 
@@ -12,17 +12,9 @@ replaced s start n others = take start s ++ (others ++ drop (start + n) s)
 abbrev pub with_record : List ℕ → ℕ → Focal → List ℕ
 with_record s i f = replaced s (record_bytes * i) record_bytes (bytes_of f)
 
--- In s the bytes from `from` up to `to` are moved up by one record.
-abbrev pub moved_up : List ℕ → ℕ → ℕ → List ℕ
-moved_up s from to = take (from + record_bytes) s ++ (take (to - from) (drop from s) ++ drop (to + record_bytes) s)
-
 -- The n bytes of s from `start` on are copied to the front of t.
 abbrev pub copied_from : List ℕ → ℕ → ℕ → List ℕ → List ℕ
 copied_from s start n t = take n (drop start s) ++ drop n t
-
--- They are copied to the front of s itself.
-abbrev pub moved_to_front : List ℕ → ℕ → ℕ → List ℕ
-moved_to_front s start n = copied_from s start n s
 
 -- In s the bytes from `from` up to `to` are zero.
 abbrev pub zeroed : List ℕ → ℕ → ℕ → List ℕ

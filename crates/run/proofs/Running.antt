@@ -3,6 +3,7 @@ use Prim.Native.Nat.{ℕ, zero, suc, ◌+◌, ◌-◌, ◌*◌, ◌≤◌, ◌<�
 use mathlib.Core.Path.{◌≡◌, refl, sym, ap, ap₂, subst, ◌∙◌}
 use mathlib.Core.Bool.{Bool, true, false, cond, false≢true}
 use mathlib.Core.List.{List, [], ◌∷◌}
+use Rattle.std.proofs.Common.{Result, Ok, Err}
 use native.Mathlib.Numerals.{add-one}
 use native.Mathlib.Omega.{arith}
 use lib.Dec.{ltb}
@@ -10,10 +11,9 @@ use borrow.Author.Tests.{ltb-false, le-ltb}
 use lib.ListN.{length, drop}
 use Rattle.theory.specs.Sums.{Every}
 use Rattle.theory.specs.Masses.{masses}
-use Rattle.theory.specs.Focal.{Focal}
+use Rattle.theory.specs.declared.Focal.{Focal}
 use Rattle.theory.specs.declared.Entry.{Entry}
 use Rattle.theory.specs.declared.Entry.TheVariants.{Component as component, Join as join}
-use Rattle.theory.specs.Joins.{pairs}
 use Rattle.theory.specs.Structure.{named, joins_find_two}
 use Rattle.theory.specs.Order.{collect}
 use Rattle.theory.specs.Lists.{no_component}
@@ -21,14 +21,16 @@ use Rattle.theory.specs.Evaluation.{Evaluation, completed, refused, refuse_if, w
 use Rattle.theory.specs.Limits.{most_masses, most_intervals, most_components, record_bytes, list_bytes}
 use Rattle.theory.specs.declared.Component.{Component}
 use Rattle.theory.specs.declared.Join.{Join}
+use Rattle.theory.specs.declared.Refusal.{Refusal}
+use Rattle.theory.specs.Refusals.{refusal_number}
 use Rattle.theory.proofs.Every.{index_of_every}
 use Rattle.theory.proofs.Structure.{named-length}
 use Rattle.theory.proofs.Totals.{fits_pairs, fits_join, fits_weights, fits_leaf, Fits}
 use Rattle.records.specs.Store.{holding_from}
-use Rattle.records.proofs.Records.{length-records}
+use Rattle.records.proofs.RecordLaws.{length-records}
 use Rattle.records.proofs.Store.{drop_from}
 use Rattle.joins.specs.Filling.{Filled, fill}
-use Rattle.joins.specs.Joins.{Operand}
+use Rattle.joins.specs.Joins.{list_of_span, pairs_in, Operand}
 use Rattle.joins.proofs.Filling.{grown}
 use Rattle.joins.proofs.Answer.{fill_made}
 use Rattle.plan.specs.declared.Plan.{Plan}
@@ -36,8 +38,7 @@ use Rattle.plan.specs.Plan.{component_at, components_of, entries_of}
 use Rattle.plan.specs.Valid.{Known}
 use Rattle.plan.proofs.Entries.{known_component, components_count, component_is}
 use Rattle.run.specs.declared.Stack.{Stack}
-use Rattle.run.specs.declared.Step.{Step}
-use Rattle.run.specs.Stack.{empty_stack, list_at, lists_below, with_list, Pushable, pushed, pushed_store, top_start, top_count, top_list, top_joined, spent, stop, Applicable, join_step, join_store}
+use Rattle.run.specs.Stack.{empty_stack, list_at, lists_below, with_list, Pushable, pushed, pushed_store, top_span, top_joined, spent, Applicable, join_step, stack_then, join_store}
 use Rattle.run.specs.Run.{needed, leaf_list, walked, Runnable}
 use Rattle.run.proofs.Entries.{join_count, counted}
 use Rattle.run.proofs.Stacked.{Stacked, none, more, Topmost, top_two_of, fits_record, length_leaf}
@@ -77,7 +78,7 @@ module _ {p : Plan} {store₀ : List ℕ} (ready : Runnable p store₀) {allowan
       let n : length (named (entries_of p)) ≡ p.count = named-length p.count (entries_of p) ready.valid.named_once in
       let j : join_count (entries_of p) + 1 ≡ p.count = omega (arith, counted (entries_of p), ready.valid.entries) in
       record {
-        stored = record { starts = refl; counts = refl; apart = λ k h. absurd (omega arith); same_length = refl; later = refl };
+        stored = record { places = refl; apart = λ k h. absurd (omega arith); same_length = refl; later = refl };
         held = 0;
         lists = none;
         height = omega arith;
@@ -90,15 +91,11 @@ module _ {p : Plan} {store₀ : List ℕ} (ready : Runnable p store₀) {allowan
         walks = refl;
       }
 
-  pub free_within : {store : List ℕ} {rest : List Entry} {st : Stack} → Running p allowance store₀ rest store st → st.free ≤ needed p
-  free_within running = omega (arith, running.room, ready.valid.most)
-
   -- At the end the one list of the stack is what the walk leaves.
-  pub finished : {store : List ℕ} {st : Stack} → Running p allowance store₀ [] store st
-      → (st.depth ≡ 1) × (walked p allowance ≡ completed (list_at store st 0 ∷ []) st.pairs)
+  pub finished : {store : List ℕ} {st : Stack} → Running p allowance store₀ [] store st → walked p allowance ≡ completed (list_at store st 0 ∷ []) st.pairs
   finished {store = store} {st = st} running =
       let one : st.depth ≡ 1 = omega (arith, running.balance) in
-      (one, sym (ap (λ d. completed (lists_below store st d) st.pairs) (sym one) ∙ running.walks))
+      sym (ap (λ d. completed (lists_below store st d) st.pairs) (sym one) ∙ running.walks)
 
   -- ---- a component's entry
   module _ {store : List ℕ} {j : ℕ} {rest : List Entry} {st : Stack} (running : Running p allowance store₀ (component j ∷ rest) store st) where
@@ -162,19 +159,23 @@ module _ {p : Plan} {store₀ : List ℕ} (ready : Runnable p store₀) {allowan
     abbrev below : List (List Focal)
     below = lists_below store st (st.depth - 2)
 
-    split : lists_below store st st.depth ≡ top_list store st 1 ∷ top_list store st 2 ∷ below
+    -- List k from the top.
+    abbrev top : ℕ → List Focal
+    top k = list_of_span store (top_span st k)
+
+    split : lists_below store st st.depth ≡ top 1 ∷ top 2 ∷ below
     split =
         let a : st.depth ≡ suc (suc (st.depth - 2)) = omega (arith, two_there) in
         let b : suc (st.depth - 2) ≡ st.depth - 1 = omega (arith, two_there) in
-        ap (lists_below store st) a ∙ ap (λ k. list_at store st k ∷ top_list store st 2 ∷ below) b
+        ap (lists_below store st) a ∙ ap (λ k. list_at store st k ∷ top 2 ∷ below) b
 
-    top_two : Topmost running.held (top_list store st 2) (top_list store st 1) below
+    top_two : Topmost running.held (top 2) (top 1) below
     top_two = top_two_of (rw split at running.lists)
 
     together : top_two.m + top_two.n ≤ most_components
     together = omega (arith, top_two.together, running.unnamed, ready.valid.most)
 
-    operand : (k : ℕ) → 0 < k → k ≤ st.depth → Operand store (top_start st k) (top_count st k)
+    operand : (k : ℕ) → 0 < k → k ≤ st.depth → Operand store (top_span st k)
     operand k a b =
         let at-k = running.stored.apart (st.depth - k) (omega arith) in
         record { count = at-k.1; inside = omega (arith, at-k, join_room, ready.enough, running.stored.same_length) }
@@ -196,8 +197,8 @@ module _ {p : Plan} {store₀ : List ℕ} (ready : Runnable p store₀) {allowan
     abbrev list : List Focal
     list = top_joined op store st
 
-    counts_are : (k : ℕ) → length (top_list store st k) ≡ top_count st k
-    counts_are k = length-records (top_count st k) (drop (top_start st k) store)
+    counts_are : (k : ℕ) → length (top k) ≡ (top_span st k).count
+    counts_are k = length-records (top_span st k).count (drop (top_span st k).start store)
 
     at_join : walked p allowance
         ≡ refuse_if (ltb allowance (spent st)) 13 (refuse_if (ltb most_intervals (length list)) 14 (walk_on p allowance rest (list ∷ below) (spent st)))
@@ -207,19 +208,19 @@ module _ {p : Plan} {store₀ : List ℕ} (ready : Runnable p store₀) {allowan
         (counts_are 2) (counts_are 1))
 
     abbrev joined_stack : Stack
-    joined_stack = with_list st (st.depth - 2) st.free (length list) (spent st)
+    joined_stack = with_list st (st.depth - 2) (length list) (spent st)
 
     join_next : spent st ≤ allowance → length list ≤ most_intervals → Running p allowance store₀ rest (holding_from store st.free list) joined_stack
     join_next a b =
         let d : ℕ = st.depth - 2 in
         let place : d < most_components = omega (arith, join_room, two_there) in
         let fits : Fits (top_two.m + top_two.n) list = fits_join op top_two.fits_left top_two.fits_right in
-        let top : lists_below (holding_from store st.free list) joined_stack (d + 1) ≡ list ∷ below =
+        let on : lists_below (holding_from store st.free list) joined_stack (d + 1) ≡ list ∷ below =
         on_top running.stored ready.enough d (spent st) list (omega arith) place join_room.1 b (fits_record fits together) in
         record {
           stored = stored_next running.stored ready.enough d (spent st) list (omega arith) place join_room.1 b;
           held = running.held;
-          lists = rw top (more fits top_two.stacked top_two.together);
+          lists = rw on (more fits top_two.stacked top_two.together);
           height = omega (arith, running.height, running.unnamed, ready.valid.most, two_there);
           unnamed = running.unnamed;
           known = (every_first running.known).1;
@@ -227,39 +228,35 @@ module _ {p : Plan} {store₀ : List ℕ} (ready : Runnable p store₀) {allowan
           two = (finds_two st.depth running.two).1;
           room = omega (arith, running.room);
           allowed = a;
-          walks = rw top (sym (at_join ∙ rw (le-ltb allowance (spent st) a, le-ltb most_intervals (length list) b) refl));
+          walks = rw on (sym (at_join ∙ rw (le-ltb allowance (spent st) a, le-ltb most_intervals (length list) b) refl));
         }
 
     -- As the join ends, the run goes on, or the walk is refused with its number.
-    abbrev Out : Step → List ℕ → Type 0
-    Out s after = (s.number ≡ 0 → Running p allowance store₀ rest after s.stack) × ((s.number ≡ 0 → ⊥) → walked p allowance ≡ refused s.number)
+    abbrev Out : Result (Unit {0}) Refusal → Stack → List ℕ → Type 0
+    Out (Ok x) t after = Running p allowance store₀ rest after t
+    Out (Err refusal) t after = walked p allowance ≡ refused (refusal_number refusal)
 
-    pub join_out : (s : Step) (after : List ℕ) → s ≡ join_step op allowance store st → after ≡ join_store op allowance store st → Out s after
-    join_out s after e f = go (ltb allowance (spent st)) refl (ltb most_intervals (length list)) refl
+    pub join_out : {r : Result (Unit {0}) Refusal} {t : Stack} {after : List ℕ} → r ≡ join_step op allowance store st → t ≡ stack_then op allowance store st
+        → after ≡ join_store op allowance store st → Out r t after
+    join_out e f g = rw (e, f, g) (go (ltb allowance (spent st)) refl (ltb most_intervals (length list)) refl)
       where
-        stops : (k : ℕ) → s ≡ stop (suc k) st → walked p allowance ≡ refused (suc k) → Out s after
-        stops k t w =
-            let n : s.number ≡ suc k = ap (λ (r : Step). r.number) t in
-            (λ z. absurd (omega arith), λ z. rw n w)
-
-        go : (a : Bool) → ltb allowance (spent st) ≡ a → (b : Bool) → ltb most_intervals (length list) ≡ b → Out s after
-        go true x b y = stops 12 (e ∙ rw x) (at_join ∙ rw x)
-        go false x true y = stops 13 (e ∙ rw (x, y)) (at_join ∙ rw (x, y))
+        go : (a : Bool) → ltb allowance (spent st) ≡ a → (b : Bool) → ltb most_intervals (length list) ≡ b
+            → Out (join_step op allowance store st) (stack_then op allowance store st) (join_store op allowance store st)
+        go true x b y = rw x (at_join ∙ rw x)
+        go false x true y = rw (x, y) (at_join ∙ rw (x, y))
         go false x false y =
             let b : length list ≤ most_intervals = ltb-false most_intervals (length list) y in
-            let t : s ≡ record { number = 0; stack = joined_stack } = e ∙ rw (x, y) in
-            let u : after ≡ holding_from store st.free list = f ∙ rw (x, fill_made (pairs op (top_list store st 2) (top_list store st 1)) b) in
-            (λ z. rw (t, u) (join_next (ltb-false allowance (spent st) x) b), λ z. absurd (z (ap (λ (r : Step). r.number) t)))
+            rw (x, y, fill_made (pairs_in op store (top_span st 2) (top_span st 1)) b) (join_next (ltb-false allowance (spent st) x) b)
 
     -- The bytes behind those that the plan needs stay as they were, at a refusal too.
     pub join_later : drop (needed p) (join_store op allowance store st) ≡ drop (needed p) store₀
     join_later = go (ltb allowance (spent st))
       where
         made : Filled
-        made = fill [] (pairs op (top_list store st 2) (top_list store st 1))
+        made = fill [] (pairs_in op store (top_span st 2) (top_span st 1))
 
         go : (b : Bool) → drop (needed p) (cond b store (holding_from store st.free made.list)) ≡ drop (needed p) store₀
         go true = running.stored.later
         go false =
-            drop_from store st.free made.list (needed p) (omega (arith, join_room, (grown [] (pairs op (top_list store st 2) (top_list store st 1))).room (omega arith)))
+            drop_from store st.free made.list (needed p) (omega (arith, join_room, (grown [] (pairs_in op store (top_span st 2) (top_span st 1))).room (omega arith)))
             (omega (arith, join_room, ready.enough, running.stored.same_length)) ∙ running.stored.later

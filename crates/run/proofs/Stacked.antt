@@ -5,7 +5,7 @@ use mathlib.Core.List.{List, [], ◌∷◌}
 use native.Mathlib.Omega.{arith}
 use lib.ListN.{length}
 use Rattle.theory.specs.Masses.{masses}
-use Rattle.theory.specs.Focal.{Focal}
+use Rattle.theory.specs.declared.Focal.{Focal}
 use Rattle.theory.specs.Order.{collect}
 use Rattle.theory.specs.Limits.{most_held, most_masses, most_components}
 use Rattle.theory.specs.declared.Component.{Component}

@@ -1,7 +1,7 @@
 -- "Pairs, allowance and store": what the run of a plan answers, and each byte of the store afterwards. Assumes nothing.
-use Rattle.std.specs.Prelude.{ℕ, ◌*◌, ◌≤◌, List, [], ◌∷◌, ◌++◌, length, get_or, drop, replicate}
+use Rattle.std.specs.Prelude.{ℕ, ◌*◌, ◌≤◌, Result, Ok, Err, List, [], ◌∷◌, ◌++◌, length, get_or, drop, replicate}
 use Rattle.theory.specs.Masses.{masses}
-use Rattle.theory.specs.Focal.{Focal}
+use Rattle.theory.specs.declared.Focal.{Focal}
 use Rattle.theory.specs.Order.{collect}
 use Rattle.theory.specs.Lists.{no_component}
 use Rattle.theory.specs.Evaluation.{Evaluation, completed, refused, walk_lists}
@@ -10,7 +10,9 @@ use Rattle.records.specs.Store.{settled}
 use Rattle.plan.specs.declared.Plan.{Plan}
 use Rattle.plan.specs.Plan.{components_of, entries_of}
 use Rattle.plan.specs.Valid.{Valid}
-use Rattle.run.specs.declared.Ran.{Ran}
+use Rattle.theory.specs.declared.Refusal.{Refusal}
+use Rattle.theory.specs.Refusals.{refusal_number}
+use Rattle.run.specs.declared.Run.{Run}
 
 -- The bytes of the store (document 01: the list buffer) that a plan of n components needs. They are all that its run writes.
 abbrev pub store_for : ℕ → ℕ
@@ -33,6 +35,15 @@ topmost [] = []
 topmost (list ∷ stack) = list
 
 -- What the run answers: 0, the pairs formed and the length of the list that is left; or a refusal's number and zeros.
+pub record Ran : Type 0 where
+  pub number : ℕ
+  pub pairs : ℕ
+  pub intervals : ℕ
+
+abbrev pub ran_as : Result Run Refusal → Ran
+ran_as (Ok r) = record { number = 0; pairs = r.pairs; intervals = r.intervals }
+ran_as (Err refusal) = record { number = refusal_number refusal; pairs = 0; intervals = 0 }
+
 abbrev pub ran_of : Evaluation (List Focal) → Ran
 ran_of (completed stack pairs) = record { number = 0; pairs = pairs; intervals = length (topmost stack) }
 ran_of (refused number) = record { number = number; pairs = 0; intervals = 0 }

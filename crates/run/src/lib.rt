@@ -3,35 +3,26 @@
 
 ghost use Rattle.std.specs.Prelude.{◌≡◌, ◌+◌, ◌*◌, ◌^◌, ◌<◌};
 ghost use Rattle.theory.specs.Limits.{most_components, record_bytes};
-ghost use Rattle.run.specs.Stack.{empty_stack, with_list, Pushable, pushed, pushed_store, Applicable, join_step, join_store};
-ghost use Rattle.run.specs.Run.{store_for, needed, walked, ran_of, store_of, Runnable};
+ghost use Rattle.run.specs.Stack.{empty_stack, with_list, Pushable, pushed, pushed_store, Applicable, join_step, stack_then, join_store};
+ghost use Rattle.run.specs.Run.{store_for, needed, walked, ran_as, ran_of, store_of, Runnable};
 
-use joins::Joined;
+use joins::Span;
 use plan::Plan;
-use theory::{Component, Entry, Join};
+use theory::{Component, Entry, Join, MOST_COMPONENTS, RECORD_BYTES, Refusal, STORE_BYTES};
 
-// The lists on the stack: where each starts in the store and how many records it has, the first `depth` in use; the byte behind them
-// all; the pairs formed so far.
+// The lists on the stack, the first `depth` in use; the byte behind them all; the pairs formed so far. No heap: a vector of fixed capacity
+// (ArrayVec) in place of array and depth is as long, takes two unwraps, and is a further crate in what C links.
 #[derive(Clone, Copy)]
 pub struct Stack {
-    pub starts: [usize; theory::MOST_COMPONENTS],
-    pub counts: [usize; theory::MOST_COMPONENTS],
+    pub lists: [Span; MOST_COMPONENTS],
     pub depth: usize,
     pub free: usize,
     pub pairs: u64,
 }
 
-// What a join does: the number of the refusal, or 0, and the stack.
+// What a plan's run answers: the pairs formed and the length of the list that is left.
 #[derive(Clone, Copy)]
-pub struct Step {
-    pub number: u8,
-    pub stack: Stack,
-}
-
-// What a plan's run answers: the number of the refusal and zeros, or 0, the pairs formed and the length of the list that is left.
-#[derive(Clone, Copy)]
-pub struct Ran {
-    pub number: u8,
+pub struct Run {
     pub pairs: u64,
     pub intervals: usize,
 }
@@ -40,120 +31,86 @@ pub struct Ran {
 pub fn store_for(n: usize) -> usize
     ensures { result ≡ store_for n }
 {
-    theory::STORE_BYTES
+    STORE_BYTES
 }
 
-fn empty_stack() -> Stack
-    ensures { result ≡ empty_stack }
-{
-    Stack {
-        starts: [0; theory::MOST_COMPONENTS],
-        counts: [0; theory::MOST_COMPONENTS],
-        depth: 0,
-        free: 0,
-        pairs: 0,
-    }
-}
-
-// The stack with a list of n records from byte `start` on as its topmost, at place d.
-fn with_list(stack: Stack, d: usize, start: usize, n: usize, pairs: u64) -> Stack
-    requires { (d < most_components) × (start + record_bytes * n < 2 ^ 64) }
-    ensures { result ≡ with_list stack d start n pairs }
-{
-    let mut q = stack;
-    q.starts[d] = start;
-    q.counts[d] = n;
-    q.depth = d + 1;
-    q.free = start + theory::RECORD_BYTES * n;
-    q.pairs = pairs;
-    q
-}
-
-// A component's entry: its list goes into the store behind the lists already there.
-fn push(c: Component, stack: Stack, store: &mut [u8]) -> Stack
-    requires { Pushable c store.old stack }
-    ensures value { result ≡ pushed c stack }
-    ensures store_after { store.new ≡ pushed_store c store.old stack }
-{
-    let free = stack.free;
-    let depth = stack.depth;
-    let pairs = stack.pairs;
-    let n = joins::put_in_store(c, store, free);
-    with_list(stack, depth, free, n, pairs)
-}
-
-// A join's entry: the pairs are tested against the allowance, then the two topmost lists are joined into the free rest of the store.
-fn apply(op: Join, stack: Stack, store: &mut [u8], allowance: u32) -> Step
-    requires { Applicable op allowance store.old stack }
-    ensures value { result ≡ join_step op allowance store.old stack }
-    ensures store_after { store.new ≡ join_store op allowance store.old stack }
-{
-    let depth = stack.depth;
-    let i = depth - 2;
-    let j = depth - 1;
-    let a = stack.starts[i];
-    let na = stack.counts[i];
-    let b = stack.starts[j];
-    let nb = stack.counts[j];
-    let free = stack.free;
-    let spent = stack.pairs + (na as u64) * (nb as u64);
-    if (allowance as u64) < spent {
-        return Step { number: 13, stack };
-    }
-    let r = joins::join_in_store(op, store, a, na, b, nb, free);
-    match r {
-        Joined::Made(n) => {
-            let q = with_list(stack, i, free, n, spent);
-            Step {
-                number: 0,
-                stack: q,
-            }
+impl Stack {
+    fn new() -> Stack
+        ensures { result ≡ empty_stack }
+    {
+        Stack {
+            lists: [Span { start: 0, count: 0 }; MOST_COMPONENTS],
+            depth: 0,
+            free: 0,
+            pairs: 0,
         }
-        Joined::Full => { Step { number: 14, stack } }
+    }
+
+    // Makes the n records from the free rest's first byte on the topmost list, at place d.
+    fn put_list(&mut self, d: usize, n: usize)
+        requires { (d < most_components) × (self.old.free + record_bytes * n < 2 ^ 64) }
+        ensures { self.new ≡ with_list self.old d n self.old.pairs }
+    {
+        self.lists[d] = Span {
+            start: self.free,
+            count: n,
+        };
+        self.depth = d + 1;
+        self.free += RECORD_BYTES * n;
+    }
+
+    // A component's entry: its list goes into the store behind the lists already there.
+    fn push(&mut self, c: Component, store: &mut [u8])
+        requires { Pushable c store.old self.old }
+        ensures self_after { self.new ≡ pushed c self.old }
+        ensures store_after { store.new ≡ pushed_store c store.old self.old }
+    {
+        let n = joins::put_in_store(c, store, self.free);
+        self.put_list(self.depth, n);
+    }
+
+    // A join's entry: the pairs are tested against the allowance, then the two topmost lists are joined into the free rest of the store.
+    fn join(&mut self, op: Join, store: &mut [u8], allowance: u32) -> Result<(), Refusal>
+        requires { Applicable op allowance store.old self.old }
+        ensures value { result ≡ join_step op allowance store.old self.old }
+        ensures self_after { self.new ≡ stack_then op allowance store.old self.old }
+        ensures store_after { store.new ≡ join_store op allowance store.old self.old }
+    {
+        let left = self.lists[self.depth - 2];
+        let right = self.lists[self.depth - 1];
+        let spent = self.pairs + left.count as u64 * right.count as u64;
+        Refusal::Allowance.when(u64::from(allowance) < spent)?;
+        let n = joins::join_in_store(op, store, left, right, self.free)?;
+        self.put_list(self.depth - 2, n);
+        self.pairs = spent;
+        Ok(())
     }
 }
 
 // The entries of a plan, one after the other. After a refusal at a join the bytes that the plan needs are zero; at the end the one list
 // that is left stands at the front, and the rest of them is zero. Later bytes stay as they were.
-pub fn run_plan(p: Plan, allowance: u32, store: &mut [u8]) -> Ran
+pub fn run_plan(p: Plan, allowance: u32, store: &mut [u8]) -> Result<Run, Refusal>
     requires { Runnable p store.old }
-    ensures value { result ≡ ran_of (walked p allowance) }
+    ensures value { ran_as result ≡ ran_of (walked p allowance) }
     ensures store_after { store.new ≡ store_of (needed p) (walked p allowance) store.old }
 {
-    let n = p.count;
-    let m = plan::entry_count(n);
-    let size = store_for(n);
-    let mut stack = empty_stack();
-    let mut i: usize = 0;
-    while i < m {
-        let entry = plan::entry_of(p.entries[i]);
-        match entry {
-            Entry::Component(j) => {
-                let c = p.components[j];
-                stack = push(c, stack, store);
-            }
+    let size = store_for(p.count);
+    let mut stack = Stack::new();
+    for code in p.used_codes() {
+        match Entry::from(*code) {
+            Entry::Component(i) => stack.push(p.components[i], store),
             Entry::Join(op) => {
-                let s = apply(op, stack, store, allowance);
-                if s.number != 0 {
+                if let Err(refusal) = stack.join(op, store, allowance) {
                     records::clear(store, 0, size);
-                    return Ran {
-                        number: s.number,
-                        pairs: 0,
-                        intervals: 0,
-                    };
+                    return Err(refusal);
                 }
-                let q = s.stack;
-                stack = q;
             }
         }
-        i += 1;
     }
-    let start = stack.starts[0];
-    let count = stack.counts[0];
-    records::settle(store, start, count, size);
-    Ran {
-        number: 0,
+    let left = stack.lists[0];
+    records::settle(store, left.start, left.count, size);
+    Ok(Run {
         pairs: stack.pairs,
-        intervals: count,
-    }
+        intervals: left.count,
+    })
 }

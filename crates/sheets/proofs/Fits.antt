@@ -7,7 +7,7 @@ use Rattle.theory.specs.Limits.{most_held, most_components, most_entries, entry_
 use Rattle.theory.specs.Sums.{Every, more}
 use Rattle.theory.proofs.Every.{every_replicate, every_append}
 use Rattle.field.specs.Bits.{field_at}
-use Rattle.field.proofs.Field.{field_below}
+use Rattle.field.proofs.FieldLaws.{field_below}
 use Rattle.block.specs.Rows.{row}
 use Rattle.block.specs.Block.{count_bits, zero_bits, total_bits, speed_bits, weight_bits, place_of, count_in, interval_in, component_of, component_in, zero_component}
 use Rattle.block.proofs.Rows.{length-row, row_every}

@@ -7,9 +7,9 @@ use lib.ListN.{length, take, drop, length-append}
 use Rattle.numbers.specs.Numbers.{number_at}
 use Rattle.plan.specs.Plan.{cleaned_plan}
 use Rattle.reading.specs.Reading.{read_of}
-use Rattle.reading.specs.declared.Reading.{Reading}
+use Rattle.reading.specs.Reading.{Reading}
 use Rattle.writing.specs.Writing.{written_of, bytes_after}
-use Rattle.writing.specs.declared.Written.{Written}
+use Rattle.writing.specs.Writing.{Written}
 use Rattle.writing.proofs.Theorems.{written_sheet, written_longest, written_is_read, read_is_written}
 use Rattle.wire.specs.Wire.{plan_bytes, decode_plan, encode_plan}
 use Rattle.wire.proofs.RoundTrip.{plan_length}

@@ -18,7 +18,7 @@ use Rattle.plan.specs.Plan.{cleaned_plan}
 use Rattle.plan.specs.Tests.{Test, test, first_broken, Unbroken, First}
 use Rattle.plan.proofs.Numbers.{no_number, accepted_by, refused_by, number_never, first_found, first_none, first_then}
 use Rattle.writing.specs.Writing.{length_of, sheet_fields, plan_tests, writer_tests, written_of, bytes_after}
-use Rattle.writing.specs.declared.Written.{Written}
+use Rattle.writing.specs.Writing.{Written}
 use Rattle.writing.proofs.Accepted.{written_number, bytes_refused}
 use Rattle.writing.proofs.Cleaned.{ignores_unused}
 use Rattle.writing.proofs.Theorems.{written_sheet, written_longest, rest_kept, nothing_written as refused-writes}

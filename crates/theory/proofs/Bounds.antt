@@ -12,7 +12,8 @@ use borrow.Author.Tests.{eqb-true}
 use Rattle.theory.specs.Sums.{sum_by, Every}
 use Rattle.theory.specs.Limits.{top_speed}
 use Rattle.theory.specs.Masses.{masses, total, AllInRange}
-use Rattle.theory.specs.Focal.{Focal, Inside, InRange}
+use Rattle.theory.specs.Focal.{Inside, InRange}
+use Rattle.theory.specs.declared.Focal.{Focal}
 use Rattle.theory.specs.declared.Entry.{Entry}
 use Rattle.theory.specs.Choices.{outcomes, belief, plausibility}
 use Rattle.theory.specs.Division.{speeds, Parts, Splits, Divides, Division, put_on, share_above, share_total}

@@ -11,7 +11,8 @@ use lib.Seq.{get_or-set_same, get_or-set_other, set_comm, set_at, get_or_at, app
 use borrow.Author.Tests.{eqb-false, eq-eqb, ltb-true}
 use Rattle.theory.specs.Sums.{sum_by, product_by, count_from, count_of, Every}
 use Rattle.theory.specs.Masses.{masses, AllPositive}
-use Rattle.theory.specs.Focal.{Focal, no_focal, Positive}
+use Rattle.theory.specs.Focal.{no_focal, Positive}
+use Rattle.theory.specs.declared.Focal.{Focal}
 use Rattle.theory.specs.Joins.{joined, joined_focal}
 use Rattle.theory.specs.declared.Entry.{Entry}
 use Rattle.theory.specs.Structure.{Φ, Tree, leaf, node, trees, leaves}

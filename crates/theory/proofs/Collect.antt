@@ -8,7 +8,8 @@ use native.Mathlib.Omega.{arith}
 use lib.Dec.{leb}
 use borrow.Author.Tests.{eq-eqb, leb-true, le-leb}
 use Rattle.theory.specs.Sums.{sum_by, Every}
-use Rattle.theory.specs.Focal.{Focal, same_ends, weights, Positive}
+use Rattle.theory.specs.Focal.{same_ends, weights, Positive}
+use Rattle.theory.specs.declared.Focal.{Focal}
 use Rattle.theory.specs.Choices.{weight_where, belief, plausibility, weight_at}
 use Rattle.theory.specs.Bounds.{Antitone}
 use Rattle.theory.specs.Order.{order, Before, InOrder, merged, inserted_at, inserted, collect}

@@ -16,3 +16,4 @@ pub mod Shares
 pub mod Range
 pub mod Bounds
 pub mod Speed
+pub mod Refusals

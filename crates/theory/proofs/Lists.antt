@@ -6,7 +6,7 @@ use native.Mathlib.Nat.{add_assoc, add_comm}
 use native.Mathlib.Omega.{arith}
 use lib.ListN.{length}
 use Rattle.theory.specs.Sums.{Every}
-use Rattle.theory.specs.Focal.{Focal}
+use Rattle.theory.specs.declared.Focal.{Focal}
 use Rattle.theory.specs.Order.{order, Before, merged, inserted_at, inserted, collect}
 use Rattle.theory.proofs.Order.{Placed, placed, before_trans, before_same, order_is}
 

@@ -10,7 +10,8 @@ use lib.ListN.{length}
 use borrow.Author.Tests.{ltb-true, ltb-false, lt-ltb, le-ltb, eqb-true, eqb-false}
 use Rattle.theory.specs.Sums.{Every}
 use Rattle.theory.specs.Limits.{top_speed, most_held, most_masses}
-use Rattle.theory.specs.Focal.{Focal, same_ends, focal_at, listed, weights, InRange, Positive}
+use Rattle.theory.specs.Focal.{same_ends, focal_at, listed, weights, InRange, Positive}
+use Rattle.theory.specs.declared.Focal.{Focal}
 use Rattle.theory.specs.Order.{merged, inserted, collect}
 use Rattle.theory.specs.Masses.{rest, rest_focal, added_at, added, masses, times_at, Distinct}
 use Rattle.theory.specs.Choices.{weight_where}

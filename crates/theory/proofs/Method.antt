@@ -10,7 +10,7 @@ use lib.ListN.{length}
 use Rattle.theory.specs.Sums.{sum_by}
 use Rattle.theory.specs.Limits.{most_intervals}
 use Rattle.theory.specs.Masses.{AllPositive}
-use Rattle.theory.specs.Focal.{Focal}
+use Rattle.theory.specs.declared.Focal.{Focal}
 use Rattle.theory.specs.declared.Entry.{Entry}
 use Rattle.theory.specs.declared.Entry.TheVariants.{Component as component, Join as join}
 use Rattle.theory.specs.Structure.{NamedOnce, joins_find_two, run, Tree, leaf, node, trees}

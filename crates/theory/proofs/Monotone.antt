@@ -10,7 +10,8 @@ use lib.ListN.{get_or}
 use borrow.Author.Tests.{leb-true, le-leb}
 use Rattle.theory.specs.Limits.{top_speed}
 use Rattle.theory.specs.Sums.{sum_by}
-use Rattle.theory.specs.Focal.{Focal, Inside}
+use Rattle.theory.specs.Focal.{Inside}
+use Rattle.theory.specs.declared.Focal.{Focal}
 use Rattle.theory.specs.Joins.{joined}
 use Rattle.theory.specs.declared.Entry.{Entry}
 use Rattle.theory.specs.declared.Entry.TheVariants.{Component as component, Join as join}

@@ -7,7 +7,8 @@ use mathlib.Core.Logic.{inl, inr}
 use native.Mathlib.Omega.{arith}
 use lib.Dec.{is_le, compare_is_eq}
 use borrow.Author.Tests.{leb-true, leb-false, eqb-true, eqb-false, eq-eqb, ne_eqb}
-use Rattle.theory.specs.Focal.{Focal, same_ends}
+use Rattle.theory.specs.Focal.{same_ends}
+use Rattle.theory.specs.declared.Focal.{Focal}
 use Rattle.theory.specs.Order.{lexically, order, Before}
 
 compare_lt : (a b : ℕ) → compare a b ≡ Ordering.lt → a < b

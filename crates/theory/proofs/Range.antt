@@ -5,7 +5,8 @@ use mathlib.Core.List.Forall₂
 use mathlib.Core.List.{List, map}
 use Rattle.theory.specs.Sums.{Every}
 use Rattle.theory.specs.Masses.{masses, AllInRange}
-use Rattle.theory.specs.Focal.{Focal, InRange}
+use Rattle.theory.specs.Focal.{InRange}
+use Rattle.theory.specs.declared.Focal.{Focal}
 use Rattle.theory.specs.declared.Entry.{Entry}
 use Rattle.theory.specs.Choices.{choices, lows, highs, Within, Spans}
 use Rattle.theory.specs.declared.Component.{Component}

@@ -10,7 +10,7 @@ use lib.Dec.{leb}
 use lib.ListN.{length}
 use Rattle.theory.specs.Sums.{sum_by, product_by}
 use Rattle.theory.specs.Masses.{masses, total}
-use Rattle.theory.specs.Focal.{Focal}
+use Rattle.theory.specs.declared.Focal.{Focal}
 use Rattle.theory.specs.declared.Entry.{Entry}
 use Rattle.theory.specs.Structure.{Φ}
 use Rattle.theory.specs.Choices.{choices, outcome, outcomes}

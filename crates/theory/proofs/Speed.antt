@@ -12,7 +12,8 @@ use lib.Seq.{take-length}
 use borrow.Author.Tests.{leb-true, leb-false, le-leb, lt-leb}
 use Rattle.theory.specs.Limits.{thousandths}
 use Rattle.theory.specs.Sums.{greatest_by, Every}
-use Rattle.theory.specs.Focal.{Focal, no_focal, weights}
+use Rattle.theory.specs.Focal.{no_focal, weights}
+use Rattle.theory.specs.declared.Focal.{Focal}
 use Rattle.theory.specs.Choices.{belief}
 use Rattle.theory.specs.Order.{InOrder}
 use Rattle.theory.specs.Speed.{Meets, meets, GreatestDemand, low_if_met, speed_for}

@@ -5,7 +5,8 @@ use mathlib.Core.List.{List, [], ◌∷◌, map}
 use native.Mathlib.Nat.{mul_assoc, mul-pos}
 use Rattle.theory.specs.Sums.{Every}
 use Rattle.theory.specs.Masses.{masses, AllPositive}
-use Rattle.theory.specs.Focal.{Focal, Positive}
+use Rattle.theory.specs.Focal.{Positive}
+use Rattle.theory.specs.declared.Focal.{Focal}
 use Rattle.theory.specs.Joins.{joined, joined_by, pairs_by, joined_focal, pairs}
 use Rattle.theory.specs.declared.Entry.{Entry}
 use Rattle.theory.specs.declared.Entry.TheVariants.{Component as component, Join as join}

@@ -9,7 +9,8 @@ use lib.Pow.{pow-add}
 use lib.ListN.{length, get_or, length-append}
 use Rattle.theory.specs.Sums.{sum_by, product_by, Every}
 use Rattle.theory.specs.Masses.{masses, total, Balanced, AllInRange, AllPositive}
-use Rattle.theory.specs.Focal.{Focal, weights, InRange}
+use Rattle.theory.specs.Focal.{weights, InRange}
+use Rattle.theory.specs.declared.Focal.{Focal}
 use Rattle.theory.specs.Limits.{most_total, most_components}
 use Rattle.theory.specs.Joins.{pairs, joined_focal}
 use Rattle.theory.specs.declared.Entry.{Entry}

@@ -4,7 +4,8 @@ use Rattle.std.specs.Prelude.{ℕ, ◌≤◌, Bool, cond, ◌≡◌, leb}
 use mathlib.Core.List.{List, map, Forall₂}
 use Rattle.theory.specs.Sums.{sum_by, product_by, one_of_each}
 use Rattle.theory.specs.Masses.{masses}
-use Rattle.theory.specs.Focal.{Focal, focal, same_ends, Inside}
+use Rattle.theory.specs.Focal.{focal, same_ends, Inside}
+use Rattle.theory.specs.declared.Focal.{Focal}
 use Rattle.theory.specs.declared.Entry.{Entry}
 use Rattle.theory.specs.Structure.{Φ}
 use Rattle.theory.specs.declared.Component.{Component}

@@ -3,7 +3,8 @@ use Rattle.std.specs.Prelude.{ℕ, suc, ◌*◌, ◌<◌, cond, ◌≡◌, leb}
 use mathlib.Core.List.{List, [], ◌∷◌, map, Forall₂}
 use Rattle.theory.specs.Sums.{sum_by, product_by, one_of_each, count_from}
 use Rattle.theory.specs.Masses.{masses}
-use Rattle.theory.specs.Focal.{Focal, Inside}
+use Rattle.theory.specs.Focal.{Inside}
+use Rattle.theory.specs.declared.Focal.{Focal}
 use Rattle.theory.specs.Limits.{top_speed}
 use Rattle.theory.specs.declared.Entry.{Entry}
 use Rattle.theory.specs.Structure.{Φ}

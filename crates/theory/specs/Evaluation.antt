@@ -1,7 +1,7 @@
 -- "Pairs, allowance and store": the pair count, and the evaluation under an allowance with numbers 13 and 14. Assumes nothing.
 use Rattle.std.specs.Prelude.{ℕ, ◌+◌, ◌*◌, Bool, true, false, List, [], ◌∷◌, ltb, length}
 use Rattle.theory.specs.Limits.{most_intervals}
-use Rattle.theory.specs.Focal.{Focal}
+use Rattle.theory.specs.declared.Focal.{Focal}
 use Rattle.theory.specs.declared.Entry.{Entry}
 use Rattle.theory.specs.declared.Entry.TheVariants.{Component as component, Join as join}
 use Rattle.theory.specs.Structure.{Tree, leaf, node}

@@ -2,7 +2,8 @@
 use Rattle.std.specs.Prelude.{ℕ, ◌+◌, ◌*◌, min, max, List, map}
 use Rattle.theory.specs.Limits.{top_speed}
 use Rattle.theory.specs.Sums.{for_each}
-use Rattle.theory.specs.Focal.{Focal, focal}
+use Rattle.theory.specs.Focal.{focal}
+use Rattle.theory.specs.declared.Focal.{Focal}
 use Rattle.theory.specs.declared.Join.{Join}
 use Rattle.theory.specs.declared.Join.TheVariants.{Series, Shared, Spare}
 

@@ -1,7 +1,7 @@
 -- "Joins": the drive's list and that of a sub-structure. Assumes nothing.
 use Rattle.std.specs.Prelude.{ℕ, ◌*◌, List, [], get_or}
 use Rattle.theory.specs.Sums.{product_by}
-use Rattle.theory.specs.Focal.{Focal}
+use Rattle.theory.specs.declared.Focal.{Focal}
 use Rattle.theory.specs.Order.{collect}
 use Rattle.theory.specs.Masses.{masses}
 use Rattle.theory.specs.Joins.{pairs_by, pairs}

@@ -2,7 +2,8 @@
 use Rattle.std.specs.Prelude.{◌≡◌, Bool, true, false, cond, List, [], ◌∷◌, ℕ, ◌-◌, ◌≤◌, ltb}
 use Rattle.theory.specs.Limits.{top_speed}
 use Rattle.theory.specs.Sums.{sum_by, product_by, Every}
-use Rattle.theory.specs.Focal.{Focal, focal, same_ends, listed, weights, InRange, Positive}
+use Rattle.theory.specs.Focal.{focal, same_ends, listed, weights, InRange, Positive}
+use Rattle.theory.specs.declared.Focal.{Focal}
 use Rattle.theory.specs.Order.{merged}
 use Rattle.theory.specs.declared.Component.{Component}
 

@@ -3,7 +3,8 @@
 use Prim.Native.Nat.{◌+◌, ◌<◌, compare, Ordering}
 use Rattle.std.specs.Prelude.{◌≡◌, ◌⊎◌, List, [], ◌∷◌}
 use Rattle.theory.specs.Sums.{Every}
-use Rattle.theory.specs.Focal.{Focal, focal}
+use Rattle.theory.specs.Focal.{focal}
+use Rattle.theory.specs.declared.Focal.{Focal}
 
 -- Of two comparisons the first decides, and where it is "equal" the second.
 abbrev pub lexically : Ordering → Ordering → Ordering

@@ -2,7 +2,7 @@
 use Rattle.std.specs.Prelude.{ℕ, ◌*◌, ◌≤◌, Bool, cond, List, leb}
 use Rattle.theory.specs.Limits.{thousandths}
 use Rattle.theory.specs.Sums.{greatest_by}
-use Rattle.theory.specs.Focal.{Focal}
+use Rattle.theory.specs.declared.Focal.{Focal}
 use Rattle.theory.specs.Choices.{belief}
 
 -- `share` is at least `target` thousandths of `whole`, compared as whole numbers, without rounding.

@@ -1,9 +1,13 @@
-// What specs and code share of a drive: the limits, a component by value, the entries of a structure, and the joins of two speeds.
+// What specs and code share of a drive: the limits, an interval with its weight, a component by value, the entries of a structure with
+// their codes, the joins of two speeds, and the refusals.
 #![tactic(auto)]
 
-ghost use Rattle.std.specs.Prelude.{◌≡◌, ◌+◌, min};
+ghost use Rattle.std.specs.Prelude.{◌≡◌, ◌<◌};
+ghost use Rattle.theory.specs.Codes.{entry_of, code_of};
+ghost use Rattle.theory.specs.Focal.{focal_at};
 ghost use Rattle.theory.specs.Joins.{joined};
-ghost use Rattle.theory.specs.Limits.{top_speed};
+ghost use Rattle.theory.specs.Limits.{most_held};
+ghost use Rattle.theory.specs.Refusals.{number_in, refusal_number, refused_when};
 
 // The limits: specs/Limits.antt has them with document 01's words.
 pub const TOP_SPEED: u16 = 4095;
@@ -28,15 +32,44 @@ pub const THOUSANDTHS: u64 = 1000;
 
 pub const MOST_DEMANDS: usize = 16;
 
+// The codes of the joins in a structure.
+pub const SERIES_CODE: u16 = 8;
+
+pub const SHARED_CODE: u16 = 9;
+
+pub const SPARE_CODE: u16 = 10;
+
+// A focal element: an interval of speeds, both ends inside it, with its weight.
+#[derive(Clone, Copy, PartialEq, Eq)]
+pub struct Focal {
+    pub low: u16,
+    pub high: u16,
+    pub weight: u64,
+}
+
 // A module: up to eight intervals of speed with their weights, the first `count` places in use, and its total T. What the weights leave of T
-// is the rest: specs/Masses.antt.
-#[derive(Clone, Copy)]
+// is the rest: specs/Masses.antt. Document 01 names this form, arrays by value with a count; `count` may be above eight until rule 4 has looked.
+#[derive(Clone, Copy, Default)]
 pub struct Component {
     pub lows: [u16; MOST_HELD],
     pub highs: [u16; MOST_HELD],
     pub weights: [u16; MOST_HELD],
     pub count: usize,
     pub total: u16,
+}
+
+impl Component {
+    // The interval at place i.
+    pub fn focal_at(&self, i: usize) -> Focal
+        requires { i < most_held }
+        ensures { result ≡ focal_at self.now i }
+    {
+        Focal {
+            low: self.lows[i],
+            high: self.highs[i],
+            weight: u64::from(self.weights[i]),
+        }
+    }
 }
 
 // How two parts of a drive are joined.
@@ -47,6 +80,19 @@ pub enum Join {
     Spare,
 }
 
+impl Join {
+    // The speed of two joined parts that run at x and y.
+    pub fn speed(self, x: u16, y: u16) -> u16
+        ensures { result ≡ joined self x y }
+    {
+        match self {
+            Join::Series => x.min(y),
+            Join::Shared => x.saturating_add(y).min(TOP_SPEED),
+            Join::Spare => x.max(y),
+        }
+    }
+}
+
 // An entry of a structure: a component by its number, or a join of the two topmost lists.
 #[derive(Clone, Copy)]
 pub enum Entry {
@@ -54,25 +100,86 @@ pub enum Entry {
     Join(Join),
 }
 
-// The sum of two speeds or 4,095, whichever is smaller.
-fn capped_sum(x: u16, y: u16) -> u16
-    ensures { result ≡ min (x + y) top_speed }
-{
-    let sum = (x as u32) + (y as u32);
-    if sum < (TOP_SPEED as u32) {
-        sum as u16
-    } else {
-        TOP_SPEED
+// What a code stands for. The code is that of the entry.
+impl From<u16> for Entry {
+    ghost from_gives = { λ code e. (e ≡ entry_of code) × (code_of e ≡ code) };
+
+    fn from(code: u16) -> Entry {
+        match code {
+            SERIES_CODE => Entry::Join(Join::Series),
+            SHARED_CODE => Entry::Join(Join::Shared),
+            SPARE_CODE => Entry::Join(Join::Spare),
+            _ => Entry::Component(usize::from(code)),
+        }
     }
 }
 
-// The speed of two joined parts that run at x and y.
-pub fn join_speeds(op: Join, x: u16, y: u16) -> u16
-    ensures { result ≡ joined op x y }
+// Why a sheet, a plan or a call is refused, in the order of the numbers: specs/Refusals.antt has them with the documents' words.
+#[derive(Clone, Copy, PartialEq, Eq)]
+pub enum Refusal {
+    Length,
+    Edition,
+    ComponentCount,
+    Layout,
+    ZeroBits,
+    Total,
+    Interval,
+    Weights,
+    Entry,
+    Naming,
+    Joins,
+    Store,
+    Allowance,
+    ListLength,
+    SheetRoom,
+    Target,
+    DemandCount,
+    SharesRoom,
+}
+
+impl Refusal {
+    // This refusal, where its test is broken.
+    pub fn when(self, broken: bool) -> Result<(), Refusal>
+        ensures { result ≡ refused_when self broken }
+    {
+        if broken { Err(self) } else { Ok(()) }
+    }
+}
+
+// The number of a refusal.
+impl From<Refusal> for u32 {
+    ghost from_gives = { λ refusal number. number ≡ refusal_number refusal };
+
+    fn from(refusal: Refusal) -> u32 {
+        match refusal {
+            Refusal::Length => 1,
+            Refusal::Edition => 2,
+            Refusal::ComponentCount => 3,
+            Refusal::Layout => 4,
+            Refusal::ZeroBits => 5,
+            Refusal::Total => 6,
+            Refusal::Interval => 7,
+            Refusal::Weights => 8,
+            Refusal::Entry => 9,
+            Refusal::Naming => 10,
+            Refusal::Joins => 11,
+            Refusal::Store => 12,
+            Refusal::Allowance => 13,
+            Refusal::ListLength => 14,
+            Refusal::SheetRoom => 15,
+            Refusal::Target => 16,
+            Refusal::DemandCount => 17,
+            Refusal::SharesRoom => 18,
+        }
+    }
+}
+
+// The number of an answer: 0 where it is accepted.
+pub fn number_in<T: Drop>(answer: Result<T, Refusal>) -> u32
+    ensures { result ≡ number_in answer }
 {
-    match op {
-        Join::Series => if x < y { x } else { y },
-        Join::Shared => capped_sum(x, y),
-        Join::Spare => if x < y { y } else { x },
+    match answer {
+        Ok(_) => 0,
+        Err(refusal) => u32::from(refusal),
     }
 }

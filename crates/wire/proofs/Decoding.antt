@@ -1,34 +1,52 @@
--- Numbers read from bytes, and how many demands so many bytes are. Assumes nothing.
-use Prim.Native.Nat.{ℕ, ◌+◌, ◌*◌, ◌/◌, ◌%◌, ◌≤◌, ◌<◌}
-use mathlib.Core.Path.{◌≡◌, sym, ap, ◌∙◌}
-use mathlib.Core.List.{List}
-use native.Mathlib.Nat.{add-zero}
+-- Arrays that are made and rows that are filled place by place, and how many demands so many bytes are. Assumes nothing.
+use Prim.Native.Nat.{ℕ, zero, suc, ◌+◌, ◌*◌, ◌/◌, ◌%◌, ◌≤◌, ◌<◌}
+use mathlib.Core.Path.{◌≡◌, refl, sym, ap, ◌∙◌}
+use mathlib.Core.List.{List, ◌∷◌, map}
+use native.Mathlib.Nat.{zero-add}
+use native.Mathlib.Numerals.{add-one}
 use native.Mathlib.Decide.{dec_lt, ℕ_discrete}
 use native.Mathlib.Omega.{arith}
-use lib.ListN.{length, get_or}
+use lib.ListN.{length, take, drop, set}
+use lib.Seq.{drop-cons}
+use denote.Param.Members.{Mut, Called}
 use borrow.Author.Tests.{eq-eqb, ne_eqb, le-leb, lt-leb}
+use Rattle.std.specs.Array.{IsFromFnResultFrom, IsFromFnResult}
+use Rattle.std.proofs.lemmas.List.{take_more_set, drop_all}
 use Rattle.theory.specs.Limits.{most_demands}
-use Rattle.numbers.specs.Numbers.{onto, number_at}
-use Rattle.numbers.proofs.Numbers.{number_next}
+use Rattle.theory.specs.Sums.{count_from}
+use Rattle.theory.proofs.Sums.{map_count}
 use Rattle.wire.specs.Demands.{demand_bytes, demand_count, Lengths}
 
-pub two_bytes : (s : List ℕ) (a : ℕ) → a + 1 < length s → number_at s a 2 ≡ 256 * get_or s a 0 + get_or s (a + 1) 0
-unfolding onto
-two_bytes s a h =
-    let first : number_at s a 1 ≡ number_at s a 0 * 256 + get_or s (a + 0) 0 = number_next s a 0 (omega arith) in
-    let here : get_or s (a + 0) 0 ≡ get_or s a 0 = ap (λ n. get_or s n 0) (add-zero a) in
-    omega (arith, number_next s a 1 h)
+-- ---- an array made by calls, one for each place
+
+module _ {F B : Type 0} (g : Mut F (ℕ × Unit {0}) B) (f : F) (h : ℕ → B) (call : (i : ℕ) (r : B) (q : F) → Called g f (i, tt) r q → (q ≡ f) × (r ≡ h i)) where
+  -- The calls at the n places from i on.
+  made_from : (ys : List B) (i n : ℕ) (q : F) → q ≡ f → length ys ≡ i + n → IsFromFnResultFrom g q ys i n → drop i ys ≡ map h (count_from i n)
+  made_from ys i zero q e l u = drop_all i ys (omega arith)
+  made_from ys i (suc n) q e l (p, y, at, k, rest) =
+      let s = call i y p (rw e at k) in
+      rw (drop-cons ys i y (omega arith), at.0, s.1, ← add-one i) (ap (h i ∷◌) (made_from ys (i + 1) n p s.0 (omega arith) rest))
+
+  pub made : {ys : List B} {n : ℕ} → IsFromFnResult g f ys n → ys ≡ map h (count_from 0 n)
+  made {ys} {n} m = made_from ys 0 n f refl (m.long ∙ omega arith) m.each
+
+-- ---- a row that is filled place by place
+
+-- One place more, with what f gives there.
+pub filled_next : (f : ℕ → ℕ) (xs : List ℕ) (i x : ℕ) → i < length xs → take i xs ≡ map f (count_from 0 i) → x ≡ f i
+    → take (i + 1) (set xs i x) ≡ map f (count_from 0 (i + 1))
+filled_next f xs i x h e d = rw (take_more_set xs i x h, e, d, add-one) (sym (map_count f 0 i i (zero-add i)))
 
 -- ---- how many demands so many bytes are
 
 module _ (bytes : ℕ) where
-  pub count_cut : (bytes % demand_bytes ≡ 0 → ⊥) → 0 ≡ demand_count bytes
+  count_cut : (bytes % demand_bytes ≡ 0 → ⊥) → 0 ≡ demand_count bytes
   count_cut h = rw (ne_eqb (bytes % demand_bytes) 0 h)
 
-  pub count_long : bytes % demand_bytes ≡ 0 → demand_bytes * most_demands < bytes → 0 ≡ demand_count bytes
+  count_long : bytes % demand_bytes ≡ 0 → demand_bytes * most_demands < bytes → 0 ≡ demand_count bytes
   count_long e h = rw (eq-eqb (bytes % demand_bytes) 0 e, lt-leb bytes (demand_bytes * most_demands) h)
 
-  pub count_whole : bytes % demand_bytes ≡ 0 → bytes ≤ demand_bytes * most_demands → bytes / demand_bytes ≡ demand_count bytes
+  count_whole : bytes % demand_bytes ≡ 0 → bytes ≤ demand_bytes * most_demands → bytes / demand_bytes ≡ demand_count bytes
   count_whole e h = rw (eq-eqb (bytes % demand_bytes) 0 e, le-leb bytes (demand_bytes * most_demands) h)
 
   -- The length is that of no demands, or of some.

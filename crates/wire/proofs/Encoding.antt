@@ -1,24 +1,31 @@
 -- Laws of numbers written as bytes, one behind the other. Assumes nothing.
-use Prim.Native.Nat.{ℕ, ◌+◌, ◌<◌}
+use Prim.Native.Nat.{ℕ, ◌+◌, ◌*◌, ◌≤◌, ◌<◌}
 use mathlib.Core.Path.{◌≡◌, ap, ◌∙◌}
-use mathlib.Core.List.{List, ◌++◌, append_assoc}
+use mathlib.Core.List.{List, [], ◌∷◌, ◌++◌, append_assoc, append-nil}
+use native.Mathlib.Omega.{arith}
 use lib.ListN.{length, take, get_or}
 use Rattle.theory.specs.declared.Component.{Component}
 use Rattle.theory.specs.Lists.{no_component}
 use Rattle.theory.specs.Sums.{for_each}
 use Rattle.theory.proofs.Sums.{for_each-append, for_each_next}
 use Rattle.numbers.specs.Numbers.{big_endian}
+use Rattle.numbers.proofs.Numbers.{Placed, placed_next}
 use Rattle.plan.specs.declared.Plan.{Plan}
-use Rattle.wire.specs.Wire.{number_bytes, encode_numbers, component_numbers_of, encode_plan}
+use Rattle.wire.specs.Wire.{number_bytes, encode_numbers, with_numbers, component_numbers_of, encode_plan}
 
 pub encode_append : (xs ys : List ℕ) → encode_numbers (xs ++ ys) ≡ encode_numbers xs ++ encode_numbers ys
 encode_append = for_each-append (big_endian number_bytes)
 
+-- Numbers put in where xs end stand behind xs.
+pub numbers_placed : {s t e xs : List ℕ} {k m : ℕ} (i : ℕ) (ns : List ℕ) → Placed s k m xs t → number_bytes * i ≡ m → number_bytes * (i + length ns) ≤ length t
+    → length e ≡ length t → e ≡ with_numbers t i (length ns) ns → Placed s k (number_bytes * (i + length ns)) (xs ++ encode_numbers ns) e
+numbers_placed i ns p a b l q = placed_next (number_bytes * i) (number_bytes * (i + length ns)) (encode_numbers ns) p a (omega arith) b l q
+
 -- The parts of a component one behind the other.
 pub component_parts : (c : Component)
-    → (((big_endian 2 c.count ++ big_endian 2 c.total) ++ encode_numbers c.lows) ++ encode_numbers c.highs) ++ encode_numbers c.weights
+    → (((big_endian 2 c.count ++ encode_numbers (c.total ∷ [])) ++ encode_numbers c.lows) ++ encode_numbers c.highs) ++ encode_numbers c.weights
     ≡ encode_numbers (component_numbers_of c)
-component_parts c = rw (encode_append c.lows (c.highs ++ c.weights), encode_append c.highs c.weights) (simp append_assoc)
+component_parts c = rw (encode_append c.lows (c.highs ++ c.weights), encode_append c.highs c.weights, append-nil) (simp append_assoc)
 
 -- One component more.
 pub encoded_next : (cs : List Component) (i : ℕ) → i < length cs

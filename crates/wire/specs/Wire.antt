@@ -45,12 +45,16 @@ decode_component s i =
       weights = numbers_in s (i + 2 + 2 * most_held) most_held;
     }
 
+-- The m components whose numbers start at number i.
+abbrev pub components_in : List ℕ → ℕ → ℕ → List Component
+components_in s i m = map (λ j. decode_component s (i + component_size * j)) (count_from 0 m)
+
 -- The plan that bytes spell.
 unfoldable pub decode_plan : List ℕ → Plan
 decode_plan s =
     record {
       count = number_in s 0;
-      components = map (λ i. decode_component s (component_start i)) (count_from 0 most_components);
+      components = components_in s 1 most_components;
       entries = numbers_in s entries_start most_entries;
     }
 

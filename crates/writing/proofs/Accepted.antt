@@ -1,20 +1,40 @@
 -- When the writer accepts a plan, and what it then leaves. Assumes nothing.
 use borrow.Author.Tests.{ltb-false, le-ltb}
-use mathlib.Core.Path.{◌≡◌, refl, ap, ◌∙◌}
+use mathlib.Core.Path.{◌≡◌, refl, sym, ap, ◌∙◌}
 use mathlib.Core.Logic.{◌↔◌}
 use mathlib.Core.Bool.{false}
 use mathlib.Core.List.{List, [], ◌∷◌}
 use Prim.Native.Nat.{ℕ, zero, suc, ◌≤◌, ◌<◌}
+use native.Mathlib.Omega.{arith}
 use lib.Dec.{ltb}
 use lib.ListN.{length}
+use Rattle.std.specs.Prelude.{Ok, Err}
 use Rattle.theory.specs.Sums.{Every, none, more}
-use Rattle.field.specs.Fields.{Field, put_all}
+use Rattle.theory.specs.Limits.{most_held}
+use Rattle.theory.specs.declared.Component.{Component}
+use Rattle.theory.specs.declared.Refusal.{Refusal}
+use Rattle.theory.specs.declared.Refusal.TheVariants.{SheetRoom}
+use Rattle.theory.specs.Refusals.{refusal_number, number_in, refused_when}
+use Rattle.theory.proofs.Refusals.{numbered, number_when, passed}
+use Rattle.field.specs.Fields.{put_all}
+use Rattle.field.specs.declared.Field.{Field}
 use Rattle.plan.specs.declared.Plan.{Plan}
 use Rattle.plan.specs.Tests.{test, first_broken, Unbroken, First}
 use Rattle.plan.specs.Plan.{components_of}
-use Rattle.plan.specs.Rules.{rule3, rule4, rules}
-use Rattle.writing.specs.Writing.{number_of, length_of, sheet_fields, writer_tests, written, written_of, bytes_by, bytes_after}
-use Rattle.plan.proofs.Numbers.{no_number, none_broken, accepted_by, refused_by, first_none}
+use Rattle.plan.specs.Rules.{rule3, bad_count, rule4, rules, AllHeld, Sized}
+use Rattle.writing.specs.Writing.{Written, number_of, length_of, sheet_fields, plan_tests, writer_tests, written, written_as, written_of, bytes_by, bytes_after}
+use Rattle.plan.proofs.Numbers.{no_number, none_broken, accepted_by, refused_by, first_found, first_none}
+use Rattle.plan.proofs.Tests.{every_failed, within}
+use Rattle.plan.proofs.Valid.{sized}
+
+pub number_written : (k len : ℕ) → (written k len).number ≡ k
+number_written zero len = refl
+number_written (suc k) len = refl
+
+-- What is answered depends on the length only where nothing is refused.
+pub written_same : (k a b : ℕ) → (k ≡ 0 → a ≡ b) → written k a ≡ written k b
+written_same zero a b h = rw (h refl)
+written_same (suc k) a b h = refl
 
 pub record Accepted (p : Plan) (room : ℕ) : Type 0 where
   pub three : rule3 p.count ≡ false
@@ -42,11 +62,7 @@ module _ (p : Plan) (room : ℕ) where
 
   pub written_number : (written_of p room).number ≡ number_of p room
   unfolding written_of
-  written_number = go (number_of p room)
-    where
-      go : (k : ℕ) → (written k (length_of p)).number ≡ k
-      go zero = refl
-      go (suc k) = refl
+  written_number = number_written (number_of p room) (length_of p)
 
   -- The tests decide: 0 exactly when none is broken, and otherwise the number of the first that is.
   pub written_accepted : ((written_of p room).number ≡ 0) ↔ Every Unbroken (writer_tests p room)
@@ -60,11 +76,11 @@ module _ (p : Plan) (room : ℕ) where
   written_length e = rw e
 
 -- A number other than 0 is answered with length 0, and nothing is written.
-pub written_refused : (p : Plan) (room k : ℕ) → (k ≡ 0 → ⊥) → k ≡ number_of p room → record { number = k; length = 0 } ≡ written_of p room
+pub refused_length : (p : Plan) (room : ℕ) → (number_of p room ≡ 0 → ⊥) → (written_of p room).length ≡ 0
 unfolding written_of
-written_refused p room k h e = go k h ∙ ap (λ x. written x (length_of p)) e
+refused_length p room = go (number_of p room)
   where
-    go : (k : ℕ) → (k ≡ 0 → ⊥) → record { number = k; length = 0 } ≡ written k (length_of p)
+    go : (k : ℕ) → (k ≡ 0 → ⊥) → (written k (length_of p)).length ≡ 0
     go zero h = absurd (h refl)
     go (suc k) h = refl
 
@@ -79,3 +95,61 @@ refused_stays p s = bytes_refused (number_of p (length s)) s (sheet_fields p)
 pub accepted_bytes : (p : Plan) (s : List ℕ) → number_of p (length s) ≡ 0 → bytes_after p s ≡ put_all s 0 (sheet_fields p)
 unfolding bytes_after
 accepted_bytes p s e = rw e
+
+-- ---- the tests one after the other, and the answer that they come to
+
+-- What rule 4 leaves.
+pub held : (cs : List Component) → rule4 cs ≡ false → AllHeld cs
+unfolding rule4
+held cs = every_failed bad_count cs (λ c h. (within 1 most_held c.count h).1)
+
+module _ (p : Plan) where
+  -- Where the plan's own rules are kept, it has a size, and 15 decides.
+  module _ (e : 0 ≡ first_broken (plan_tests p)) where
+    kept : Every Unbroken (plan_tests p)
+    kept = no_number 11 (plan_tests p) refl (sym e)
+
+    pub is_sized : Sized p
+    is_sized = go kept
+      where
+        go : Every Unbroken (plan_tests p) → Sized p
+        go (more three (more four others)) = sized p three four
+
+    pub room_decides : (room len : ℕ) → len ≡ length_of p → number_in (refused_when SheetRoom (ltb room len)) ≡ number_of p room
+    room_decides room len l =
+        number_when SheetRoom (ltb room len) ∙ rw l (sym (first_none (test 15 (ltb room (length_of p)) ∷ []) kept))
+
+  module _ (room : ℕ) where
+    -- A number of the plan's own is the answer.
+    pub plan_decides : (r : Refusal) → refusal_number r ≡ first_broken (plan_tests p) → refusal_number r ≡ number_of p room
+    plan_decides r e = e ∙ sym (first_found (plan_tests p) (test 15 (ltb room (length_of p)) ∷ []) (λ z. numbered r (e ∙ z)))
+
+    -- The answer to that and to 15.
+    pub answered_refused : (r : Refusal) → refusal_number r ≡ number_of p room → written_as (Err r) ≡ written_of p room
+    unfolding written_of
+    answered_refused r e = written_same (refusal_number r) 0 (length_of p) (λ z. absurd (numbered r z)) ∙ ap (λ k. written k (length_of p)) e
+
+-- What the tests of a plan go by, and those of a plan and a buffer.
+pub ruleset kept_tests = (passed, held)
+
+pub ruleset deciding_tests = (answered_refused, plan_decides, is_sized, room_decides, written_length)
+
+-- What the answer says of the bytes s: a refusal leaves them, and a length is that of a plan that is accepted.
+pub refused_kept : (p : Plan) (s : List ℕ) (r : Refusal) → written_as (Err r) ≡ written_of p (length s) → s ≡ bytes_after p s
+refused_kept p s r e =
+    let n : refusal_number r ≡ number_of p (length s) =
+    sym (number_written (refusal_number r) 0) ∙ ap (λ (w : Written). w.number) e ∙ written_number p (length s) in
+    sym (refused_stays p s (λ z. numbered r (n ∙ z)))
+
+pub record Answered (p : Plan) (s : List ℕ) (len : ℕ) : Type 0 where
+  pub has_size : Sized p
+  pub len_is : len ≡ length_of p
+  pub fits : len ≤ length s
+  pub bytes : put_all s 0 (sheet_fields p) ≡ bytes_after p s
+
+pub length_answered : (p : Plan) (s : List ℕ) (len : ℕ) → written_as (Ok len) ≡ written_of p (length s) → Answered p s len
+length_answered p s len e =
+    let none : number_of p (length s) ≡ 0 = sym (ap (λ (w : Written). w.number) e ∙ written_number p (length s)) in
+    let l : len ≡ length_of p = ap (λ (w : Written). w.length) (e ∙ written_length p (length s) none) in
+    let a = number_accepts p (length s) none in
+    record { has_size = sized p a.three a.four; len_is = l; fits = omega (arith, l, a.fits); bytes = sym (accepted_bytes p s none) }

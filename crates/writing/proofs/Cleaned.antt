@@ -6,24 +6,27 @@ use Prim.Native.Nat.{ℕ, zero, suc, ◌-◌, ◌≤◌, ◌<◌}
 use native.Mathlib.Omega.{arith}
 use lib.Dec.{ltb}
 use lib.ListN.{length, get_or}
-use Rattle.theory.specs.Sums.{for_each, count_from, Every, none, more}
-use Rattle.theory.specs.Focal.{Focal, focal_at}
+use Rattle.theory.specs.Sums.{for_each, count_from, none, more}
+use Rattle.theory.specs.Focal.{focal_at}
+use Rattle.theory.specs.declared.Focal.{Focal}
 use Rattle.theory.specs.Limits.{most_held, most_components, most_entries, entry_count}
 use Rattle.theory.specs.Lists.{no_component}
 use Rattle.theory.specs.declared.Component.{Component}
 use Rattle.theory.proofs.Sums.{sum_map}
-use Rattle.field.specs.Fields.{Field, bits}
+use Rattle.field.specs.Fields.{bits}
+use Rattle.field.specs.declared.Field.{Field}
 use Rattle.block.proofs.Rows.{row_used}
 use Rattle.block.proofs.Laws.{filled_used}
 use Rattle.block.specs.Block.{speed_bits, weight_bits, size_of, zero_component, cleaned, intervals_of, fields_of}
 use Rattle.plan.specs.declared.Plan.{Plan}
 use Rattle.plan.specs.declared.Flaws.{Flaws}
 use Rattle.plan.specs.Tests.{Test, test, first_broken, any_of}
-use Rattle.plan.specs.Plan.{component_at, components_of, codes_of, entry_of, cleaned_plan}
-use Rattle.plan.specs.Rules.{rule3, bad_count, rule4, bad_total, bad_alone, after, bad_interval, bad_intervals, bad_sum, flaws_in, flaw_tests, structure_tests, rules}
-use Rattle.plan.proofs.Tests.{every_failed, any_map, any_alike, map_below, within}
-use Rattle.writing.specs.Writing.{number_of, length_of, sheet_fields, written, written_of, bytes_by, bytes_after, IgnoresUnused}
-use Rattle.writing.proofs.Accepted.{number_accepts}
+use Rattle.plan.specs.Plan.{component_at, components_of, codes_of, cleaned_plan}
+use Rattle.theory.specs.Codes.{entry_of}
+use Rattle.plan.specs.Rules.{rule3, bad_count, rule4, bad_total, bad_alone, after, bad_interval, bad_intervals, bad_sum, flaws_in, flaw_tests, structure_tests, rules, AllHeld}
+use Rattle.plan.proofs.Tests.{any_map, any_alike, map_below, within}
+use Rattle.writing.specs.Writing.{number_of, length_of, sheet_fields, written_of, bytes_by, bytes_after, IgnoresUnused}
+use Rattle.writing.proofs.Accepted.{number_accepts, written_same, held}
 
 -- The fields of an interval.
 abbrev focal_fields : Focal → List Field
@@ -59,9 +62,6 @@ module _ (c : Component) (l : c.count ≤ most_held) where
   fields_cleaned = rw (first_cleaned c.count (omega arith))
 
 -- Components that are held.
-abbrev AllHeld : List Component → Type 0
-AllHeld = Every (λ c. c.count ≤ most_held)
-
 any_cleaned : (f : Component → Bool) → ((c : Component) → c.count ≤ most_held → f (cleaned c) ≡ f c) → {cs : List Component} → AllHeld cs → any_of f (map cleaned cs) ≡ any_of f cs
 any_cleaned f h none = refl
 any_cleaned f h (more {x = c} l ls) = rw (h c l, any_cleaned f h ls)
@@ -76,10 +76,6 @@ blocks_cleaned (more {x = c} l ls) = rw (fields_cleaned c l, blocks_cleaned ls)
 counts_cleaned : (cs : List Component) → rule4 (map cleaned cs) ≡ rule4 cs
 unfolding rule4 cleaned
 counts_cleaned cs = any_map bad_count cleaned cs
-
-held : (p : Plan) → rule4 (components_of p) ≡ false → AllHeld (components_of p)
-unfolding rule4
-held p e = every_failed bad_count (components_of p) (λ c h. (within 1 most_held c.count h).1) e
 
 -- A plan with up to six components.
 module _ (p : Plan) (n : p.count ≤ most_components) where
@@ -133,7 +129,7 @@ module _ (p : Plan) (room : ℕ) where
       four n false e =
           ap₂
           (λ (ts : List Test) (len : ℕ). first_broken (test 3 (rule3 p.count) ∷ test 4 (rule4 (components_of (cleaned_plan p))) ∷ (ts ++ (test 15 (ltb room len) ∷ []))))
-          (rules_cleaned p n (held p e)) (length_cleaned p n)
+          (rules_cleaned p n (held (components_of p) e)) (length_cleaned p n)
           ∙ rw (rule4_cleaned p n)
 
       three : (b : Bool) → rule3 p.count ≡ b → number_of (cleaned_plan p) room ≡ number_of p room
@@ -149,13 +145,9 @@ module _ (p : Plan) (room : ℕ) where
     same_length = length_cleaned p most
 
     same_fields : sheet_fields (cleaned_plan p) ≡ sheet_fields p
-    same_fields = sheet_cleaned p most (held p (number_accepts p room e).four)
+    same_fields = sheet_cleaned p most (held (components_of p) (number_accepts p room e).four)
 
--- What is answered and written depends on the length and the fields only where nothing is refused.
-written_same : (k a b : ℕ) → (k ≡ 0 → a ≡ b) → written k a ≡ written k b
-written_same zero a b h = rw (h refl)
-written_same (suc k) a b h = refl
-
+-- What is written depends on the fields only where nothing is refused.
 bytes_same : (k : ℕ) (s : List ℕ) (fs gs : List Field) → (k ≡ 0 → fs ≡ gs) → bytes_by k s fs ≡ bytes_by k s gs
 bytes_same zero s fs gs h = rw (h refl)
 bytes_same (suc k) s fs gs h = refl

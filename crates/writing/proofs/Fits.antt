@@ -14,7 +14,8 @@ use Rattle.field.proofs.Fields.{fitting_append}
 use Rattle.block.specs.Block.{fields_of}
 use Rattle.block.proofs.RoundTrip.{fitting_fields_of}
 use Rattle.plan.specs.declared.Plan.{Plan}
-use Rattle.plan.specs.Plan.{codes_of, entry_of}
+use Rattle.plan.specs.Plan.{codes_of}
+use Rattle.theory.specs.Codes.{entry_of}
 use Rattle.plan.specs.Rules.{Sized}
 use Rattle.writing.specs.Writing.{length_of, block_fields, structure_fields, sheet_fields}
 use Rattle.plan.specs.Valid.{Known, Valid}

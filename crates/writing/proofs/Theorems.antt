@@ -8,17 +8,17 @@ use lib.ListN.{length, get_or, take, drop, length-drop, length-append, get_or-ap
 use lib.Seq.{get_or-drop, get_or-take, length-take-le, get_or-append-add}
 use Rattle.numbers.specs.Numbers.{Bytes}
 use Rattle.field.specs.Bits.{bit}
-use Rattle.field.specs.Fields.{Field, bits, width_of, Holds, put_all}
+use Rattle.field.specs.Fields.{bits, width_of, Holds, put_all}
+use Rattle.field.specs.declared.Field.{Field}
 use Rattle.field.proofs.Fields.{width_append, length_put_all, put_all_bytes, put_all_holds, put_all_other, put_all_rest, holds_fitting, holds_bits}
 use Rattle.field.proofs.Put.{field_ext, bits_ext}
 use Rattle.plan.specs.declared.Plan.{Plan}
 use Rattle.reading.proofs.Decided.{decided, sound}
-use Rattle.writing.specs.declared.Written.{Written}
 use Rattle.plan.specs.Plan.{components_of, codes_of, cleaned_plan}
 use Rattle.plan.specs.Rules.{Sized}
 use Rattle.reading.specs.Reading.{plan_in, read_of}
 use Rattle.writing.specs.Writing.{number_of, length_of, block_fields, structure_fields, sheet_fields, written_of, bytes_after}
-use Rattle.writing.proofs.Accepted.{number_accepts, accepts_number, written_number, written_length, written_refused, refused_stays, accepted_bytes, Accepted}
+use Rattle.writing.proofs.Accepted.{number_accepts, accepts_number, written_number, written_length, refused_length, refused_stays, accepted_bytes, Accepted}
 use Rattle.writing.proofs.Fits.{sheet_fits}
 use Rattle.plan.specs.Valid.{Valid}
 use Rattle.plan.proofs.Numbers.{none_broken}
@@ -68,7 +68,7 @@ pub nothing_written : (p : Plan) (s : List ℕ) (k : ℕ) → 0 < k → (written
     → ((written_of p (length s)).length ≡ 0) × (bytes_after p s ≡ s)
 nothing_written p s k h e =
     let n : number_of p (length s) ≡ k = sym (written_number p (length s)) ∙ e in
-    (sym (ap (λ (w : Written). w.length) (written_refused p (length s) k (λ z. omega arith) (sym n))), refused_stays p s (λ z. omega arith))
+    (refused_length p (length s) (λ z. omega arith), refused_stays p s (λ z. omega arith))
 
 pub rest_kept : (p : Plan) (s : List ℕ) → (written_of p (length s)).number ≡ 0
     → drop (written_of p (length s)).length (bytes_after p s) ≡ drop (written_of p (length s)).length s

@@ -1,10 +1,12 @@
 -- What a plan is written as: its sheet as a row of fields, the writer's answer, and the buffer's bytes afterwards. Assumes nothing.
-use Rattle.std.specs.Prelude.{ℕ, zero, suc, ◌+◌, ◌≡◌, List, [], ◌∷◌, ◌++◌, map, ltb, length}
+use Rattle.std.specs.Prelude.{ℕ, zero, suc, ◌+◌, ◌≡◌, Result, Ok, Err, List, [], ◌∷◌, ◌++◌, map, ltb, length}
 use Rattle.theory.specs.Sums.{sum_by, for_each}
-use Rattle.field.specs.Fields.{Field, bits, put_all}
+use Rattle.field.specs.Fields.{bits, put_all}
+use Rattle.field.specs.declared.Field.{Field}
 use Rattle.block.specs.Block.{size_of, fields_of}
 use Rattle.plan.specs.declared.Plan.{Plan}
-use Rattle.writing.specs.declared.Written.{Written}
+use Rattle.theory.specs.declared.Refusal.{Refusal}
+use Rattle.theory.specs.Refusals.{refusal_number}
 use Rattle.plan.specs.Tests.{Test, test, first_broken}
 use Rattle.plan.specs.Sheet.{head_bytes, edition, edition_bits, component_count_bits, length_bits, entry_bits}
 use Rattle.plan.specs.Plan.{components_of, codes_of, cleaned_plan}
@@ -46,10 +48,19 @@ writer_tests p room = plan_tests p ++ (test 15 (ltb room (length_of p)) ∷ [])
 abbrev pub number_of : Plan → ℕ → ℕ
 number_of p room = first_broken (writer_tests p room)
 
--- The sheet's length, or the number of the refusal and length 0.
+-- The number and the sheet's length, 0 where it is refused.
+pub record Written : Type 0 where
+  pub number : ℕ
+  pub length : ℕ
+
 abbrev pub written : ℕ → ℕ → Written
 written zero len = record { number = 0; length = len }
 written (suc k) len = record { number = suc k; length = 0 }
+
+-- The same of each case of the writer's answer.
+abbrev pub written_as : Result ℕ Refusal → Written
+written_as (Ok len) = written 0 len
+written_as (Err refusal) = written (refusal_number refusal) 0
 
 -- What the writer answers.
 unfoldable pub written_of : Plan → ℕ → Written

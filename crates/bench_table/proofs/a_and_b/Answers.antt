@@ -4,4 +4,4 @@ use Rattle.bench_table.proofs.a_and_b.Goals as goal
 
 pub returns : goal.returns
 unfolding component_a component_b
-returns c = rw (c.written.ensures, c.component-a.ensures, c.component-b.ensures)
+returns c = rw (c.sheet.ensures, c.component-a.ensures, c.component-b.ensures)

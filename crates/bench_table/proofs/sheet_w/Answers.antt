@@ -4,4 +4,4 @@ use Rattle.bench_table.proofs.sheet_w.Goals as goal
 
 pub returns : goal.returns
 unfolding W0 W1
-returns c = rw (c.written.ensures, c.component-first.ensures, c.component-second.ensures)
+returns c = rw (c.sheet.ensures, c.component-first.ensures, c.component-second.ensures)

@@ -1,10 +1,6 @@
--- `block::put_intervals` meets its contract. The invariant: the first i intervals are put. Assumes nothing.
-use mathlib.Core.Path.{◌≡◌, refl, ap, ◌∙◌}
-use mathlib.Core.List.{List}
-use Prim.Native.Nat.{ℕ, ◌+◌}
-use native.Mathlib.Numerals.{add-one}
-use native.Mathlib.Omega.{arith}
-use Rattle.field.specs.Fields.{put_all}
+-- `block::put_intervals` meets its contract. Assumes nothing.
+use Rattle.std.proofs.Common.{◌≡◌, ◌+◌, ℕ, List, refl, rules, add-one}
+use Rattle.field.specs.Fields.{FieldsInside, put_all}
 use Rattle.field.proofs.Fields.{put_all_append}
 use Rattle.theory.specs.declared.Component.{Component}
 use Rattle.block.specs.Block.{place_of, interval_of, intervals_of}
@@ -19,14 +15,11 @@ more s x y c i a p r q = rw (q, r, p, add-one, put_all_append s (place_of 0) (in
 
 pub loop-i-init : goal.loop-i-init
 unfolding intervals_of put_all
-loop-i-init c = (omega arith, refl)
+loop-i-init c = refl
+
+pub put_fields-requires : goal.put_fields-requires
+unfolding FieldsInside
+put_fields-requires c = search rules
 
 pub loop-i-preserved : goal.loop-i-preserved
-loop-i-preserved c = (omega arith, more _ c.loop-i.dst _ _ c.loop-i.i _ c.loop-i.invariant.1 c.interval_place.ensures c.put_three.ensures)
-
-pub returns : goal.returns
-returns c =
-    let a = c.args in
-    let l = c.loop-i in
-    let e : l.i ≡ a.c.count = omega arith in
-    l.invariant.1 ∙ ap (λ (n : ℕ). put_all a.dst.now (place_of 0) (intervals_of a.c n)) e
+loop-i-preserved c = more _ _ _ _ _ _ c.loop-i.invariant c.interval_place.ensures (rw (c.from.ensures, c.from-in-loop-i.ensures, c.from-in-loop-i-2.ensures) at c.put_fields.ensures)

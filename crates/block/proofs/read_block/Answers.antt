@@ -1,60 +1,81 @@
 -- `block::read_block` meets its contract. Assumes nothing.
-use mathlib.Core.Path.{◌≡◌, sym, ap, ◌∙◌}
-use mathlib.Core.Bool.{Bool, false, ◌||◌}
-use mathlib.Core.List.{List}
-use Prim.Native.Nat.{ℕ}
-use native.Mathlib.Omega.{arith}
-use lib.Dec.{ltb, lit≤}
+use Rattle.std.proofs.Common.{◌≡◌, ◌∙◌, ◌<◌, ◌≤◌, ◌+◌, sym, ℕ, List, arith, Some, None, Option, Bool, ◌||◌, lit≤}
+use Rattle.std.proofs.Math.Dec.{ltb}
+use Rattle.std.proofs.lemmas.Bool.Decides.{nat_tests}
 use Rattle.field.specs.Bits.{field_at}
-use Rattle.reader.specs.Fields.{three_at}
-use Rattle.reader.specs.declared.Triple.{Triple}
+use Rattle.field.proofs.FieldLaws.{field_below}
+use Rattle.theory.specs.Limits.{most_held}
 use Rattle.theory.specs.declared.Component.{Component}
-use Rattle.block.specs.Block.{count_bits, zero_bits, total_bits, place_of, size_of, padding_of, count_in, bad_zero_bits, component_of, no_block, block_in}
+use Rattle.block.specs.Block.{count_bits, zero_bits, total_bits, place_of, size_of, padding_of, count_in, total_in, bad_zero_bits, component_of, block_in}
 use Rattle.block.specs.declared.Block.{Block}
-use Rattle.block.proofs.Laws.{Uncut, narrow, is_uncut, is_cut, block_uncut, block_cut}
+use Rattle.block.proofs.Laws.{Uncut, is_uncut, is_cut, block_uncut, block_cut}
 use Rattle.block.proofs.read_block.Goals as goal
+use Rattle.block.proofs.read_block.Goals.{After-take-total, then-zero-gt0, else-zero-gt0}
 
--- k as it was read.
-counted : (s : List ℕ) (t : Triple) → t ≡ three_at s 0 count_bits zero_bits total_bits → t.first ≡ count_in s
-counted s t e = ap (λ (t : Triple). t.first) e
+-- The head's fields as they were read.
+k_is : (c : After-take-total) → c.take.result ≡ count_in c.args.part.now
+k_is c = c.take.ensures.value ∙ rw (c.new-head.ensures.0, c.new-head.ensures.1)
+
+zero_is : (c : After-take-total) → c.take-zero.result ≡ field_at c.args.part.now count_bits zero_bits
+zero_is c = c.take-zero.ensures.value ∙ rw (c.take.ensures.self_after.0, c.take.ensures.self_after.1, c.new-head.ensures.0, c.new-head.ensures.1)
+
+total_is : (c : After-take-total) → c.take-total.result ≡ total_in c.args.part.now
+total_is c =
+    c.take-total.ensures.value
+    ∙ rw (
+      c.take-zero.ensures.self_after.0,
+      c.take-zero.ensures.self_after.1,
+      c.take.ensures.self_after.0,
+      c.take.ensures.self_after.1,
+      c.new-head.ensures.0,
+      c.new-head.ensures.1,
+    )
+
+-- Whether one of two numbers is not zero, as the code asks it.
+first_one : (r : Bool) (a b : ℕ) → r ≡ ltb 0 a → 0 < a → r ≡ (ltb 0 a || ltb 0 b)
+first_one r a b e h = grind (arith, nat_tests)
+
+other_one : (r : Bool) (a b : ℕ) → r ≡ ltb 0 b → a ≤ 0 → r ≡ (ltb 0 a || ltb 0 b)
+other_one r a b e h = grind (arith, nat_tests)
 
 -- The answer, of its parts.
-built : (s : List ℕ) (h : Triple) (size end width padding : ℕ) (c : Component) (b : Bool) → h ≡ three_at s 0 count_bits zero_bits total_bits
-    → size ≡ size_of h.first → end ≡ place_of h.first → width ≡ padding_of h.first → padding ≡ field_at s end width
-    → c ≡ component_of s h.first h.third → b ≡ (ltb 0 h.second || ltb 0 padding) → Uncut s
-    → ◌≡◌ {A = Block} (record { cut = false; nonzero = b; size = size; component = c }) (block_in s)
+built : (s : List ℕ) (k z t size padding : ℕ) (b : Bool) (c : Component) → k ≡ count_in s → z ≡ field_at s count_bits zero_bits → t ≡ total_in s
+    → size ≡ size_of k → padding ≡ field_at s (place_of k) (padding_of k) → b ≡ (ltb 0 z || ltb 0 padding) → c ≡ component_of s k t → Uncut s
+    → ◌≡◌ {A = Option Block} (Some (record { nonzero = b; size = size; component = c })) (block_in s)
 unfolding bad_zero_bits
-built s h size end width padding c b e z p w f g i u = rw (i, g, f, z, p, w, e) (sym (block_uncut s (is_uncut s u)))
+built s k z t size padding b c ke ze te se pe be ce u = rw (ce, be, pe, se, ke, ze, te) (sym (block_uncut s (is_uncut s u)))
 
 -- No block, where this one is cut short.
-none : (s : List ℕ) (b : Block) → b ≡ no_block → (Uncut s → ⊥) → b ≡ block_in s
-none s b e h = e ∙ sym (block_cut s (is_cut s h))
+none : (s : List ℕ) → (Uncut s → ⊥) → None ≡ block_in s
+none s h = sym (block_cut s (is_cut s h))
 
 pub returns-then-part-lt-BLOCK_HEAD_BYTES : goal.returns-then-part-lt-BLOCK_HEAD_BYTES
-returns-then-part-lt-BLOCK_HEAD_BYTES c = none c.args.part.now _ c.no_block.ensures (λ u. omega arith)
+returns-then-part-lt-BLOCK_HEAD_BYTES c = none c.args.part.now (λ u. omega arith)
 
-pub returns-then-k-lt1 : goal.returns-then-k-lt1
-returns-then-k-lt1 c =
-    let e = counted _ _ c.three-head.ensures in
-    none c.args.part.now _ c.no_block-then-k-lt1.ensures (λ u. omega arith)
+pub overflow_cast-total : goal.overflow_cast-total
+overflow_cast-total c = record { fits = rw (total_is c) (field_below c.args.part.now (count_bits + zero_bits) total_bits 16 (lit≤ tt)) }
 
-pub returns-then-k-gt-MOST_HELD : goal.returns-then-k-gt-MOST_HELD
-returns-then-k-gt-MOST_HELD c =
-    let e = counted _ _ c.three-head.ensures in
-    none c.args.part.now _ c.no_block-then-k-gt-MOST_HELD.ensures (λ u. omega arith)
+pub returns-then-not-contains : goal.returns-then-not-contains
+returns-then-not-contains c =
+    let e = k_is (goal.at.returns-then-not-contains c).After-take-total in
+    none c.args.part.now (λ u. grind (arith, nat_tests, c.contains.ensures.value))
 
 pub returns-then-part-size : goal.returns-then-part-size
 returns-then-part-size c =
-    let e = counted _ _ c.three-head.ensures in
-    none c.args.part.now _ c.no_block-then-part-size.ensures (λ u. omega arith)
-
-pub overflow_cast-head : goal.overflow_cast-head
-overflow_cast-head c =
-    record { fits = (narrow _ 0 count_bits zero_bits total_bits c.three-head.result (lit≤ tt) (lit≤ tt) (lit≤ tt) c.three-head.ensures).2 }
+    let e = k_is (goal.at.returns-then-part-size c).After-take-total in
+    none c.args.part.now (λ u. omega arith)
 
 pub returns : goal.returns
 returns c =
-    let e = counted _ _ c.three-head.ensures in
-    built c.args.part.now c.three-head.result _ _ _ c.one-padding.result _ _
-    c.three-head.ensures c.block_size-size.ensures c.interval_place.ensures c.padding_bits.ensures c.one-padding.ensures
-    c.read_component-c.ensures c.either_nonzero.ensures (record { least = omega arith; most = omega arith; there = omega arith })
+    let h = (goal.at.returns c).After-take-total in
+    let e = k_is h in
+    let padding : c.take-padding.result ≡ field_at c.args.part.now (place_of c.take.result) (padding_of c.take.result) =
+    c.take-padding.ensures.value ∙ rw (c.new-2.ensures.0, c.new-2.ensures.1, c.interval_place.ensures, c.padding_bits.ensures) in
+    let ones : c.if-zero-gt0.result ≡ (ltb 0 c.take-zero.result || ltb 0 c.take-padding.result) = elim c.if-zero-gt0.branch [
+      | then-zero-gt0 w ↦ first_one _ _ _ w.result-is w.if-zero-gt0.true
+      | else-zero-gt0 w ↦ other_one _ _ _ w.result-is w.if-zero-gt0.false
+    ] in
+    let least : 1 ≤ count_in c.args.part.now = grind (arith, nat_tests, c.contains.ensures.value) in
+    let most : count_in c.args.part.now ≤ most_held = grind (arith, nat_tests, c.contains.ensures.value) in
+    built _ _ _ _ _ _ _ _ e (zero_is h) (total_is h) c.block_size-size.ensures padding ones c.read_component.ensures
+    (record { least = least; most = most; there = omega arith })

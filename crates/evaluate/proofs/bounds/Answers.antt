@@ -1,34 +1,64 @@
--- `evaluate::bounds` meets its contract: tests and run, and the shares of the list.
-use Rattle.std.proofs.Common.{ℕ, List, length, refl, sym, ap, ◌∙◌}
-use Rattle.queries.specs.Shares.{shares_of}
-use Rattle.evaluate.specs.SheetRun.{ending_at, store_at}
-use Rattle.evaluate.specs.Answer.{components, structure, answer_of}
-use Rattle.evaluate.proofs.Numbers.{number_alone, answer_is, store_is}
-use Rattle.evaluate.proofs.Finish.{end, PastRun, past_run, answer_asked}
+-- `evaluate::bounds` meets its contract: tests and run, and the shares of the list. Assumes nothing.
+use Rattle.std.proofs.Common.{◌≡◌, ℕ, List, [], length, refl, sym, ◌∙◌}
+use Rattle.std.proofs.lemmas.Result.{err_from_is_err_and}
+use Rattle.evaluate.specs.Store.{store_after}
+use Rattle.evaluate.specs.SheetRun.{SheetRun, sheet_run, store_then}
+use Rattle.theory.proofs.Refusals.{positive}
+use Rattle.evaluate.proofs.Numbers.{call_numbered, store_is}
+use Rattle.evaluate.proofs.Demands.{AcceptedCall, Called, refuses, accepts, answer_by}
+use Rattle.evaluate.proofs.Asked.{called, inside, summable, answer_asked}
 use Rattle.evaluate.proofs.bounds.Goals as goal
 
-pub shares_at-s-requires : goal.shares_at-s-requires
-shares_at-s-requires c =
+-- Past tests and run.
+module _ (s : List ℕ) (allowance : ℕ) (store : List ℕ) {r : SheetRun} {after : List ℕ}
+    (value : r ≡ sheet_run s (length store) 0 allowance) (left : after ≡ store_then s 0 allowance store) where
+  this : Called s allowance store [] r after
+  this = called s allowance store [] (call_numbered s (length store)) refl value left
+
+  accepted : r.number ≡ 0 → AcceptedCall s allowance store [] r after
+  accepted = accepts s allowance store [] this
+
+  stored : after ≡ store_after s allowance store
+  stored = this.stored ∙ sym (store_is s allowance store)
+
+pub returns-in_err-r-clause-value : goal.returns-in_err-r-clause-value
+returns-in_err-r-clause-value c =
     let a = c.args in
-    let e = c.run_sheet-r.ensures in
-    (past_run a.sheet.now 0 a.allowance a.store.now refl c.run_sheet-r.result c.run_sheet-r.new.store e.value e.store_after).list.readable
+    let p = err_from_is_err_and c.from_residual.result c.from_residual.ensures.1 in
+    let e = c.in_err-r.ensures in
+    let call = this a.sheet.now a.allowance a.store.now e.value e.store_after in
+    rw (p.1, p.2)
+    (sym (answer_by a.sheet.now a.demand a.allowance a.store.now a.demand (refuses a.sheet.now a.allowance a.store.now [] call _ (positive _) refl)))
+
+pub returns-in_err-r-clause-store_after : goal.returns-in_err-r-clause-store_after
+returns-in_err-r-clause-store_after c =
+    let a = c.args in
+    let e = c.in_err-r.ensures in
+    stored a.sheet.now a.allowance a.store.now e.value e.store_after
+
+pub new-list-requires : goal.new-list-requires
+new-list-requires c =
+    let a = c.args in
+    let e = c.in_ok-r.ensures in
+    inside (accepted a.sheet.now a.allowance a.store.now e.value e.store_after refl)
+
+pub shares_at-requires : goal.shares_at-requires
+shares_at-requires c =
+    let a = c.args in
+    let e = c.in_ok-r.ensures in
+    let call = accepted a.sheet.now a.allowance a.store.now e.value e.store_after refl in
+    summable call c.new-list.result c.new-list.ensures refl
 
 pub returns-clause-value : goal.returns-clause-value
 returns-clause-value c =
     let a = c.args in
-    let s : List ℕ = a.sheet.now in
-    let e = c.run_sheet-r.ensures in
-    let past : PastRun s 0 a.allowance a.store.now c.run_sheet-r.result c.run_sheet-r.new.store =
-    past_run s 0 a.allowance a.store.now refl c.run_sheet-r.result c.run_sheet-r.new.store e.value e.store_after in
-    let shares = c.shares_at-s.ensures ∙ ap (shares_of a.demand) past.list.list_is in
-    c.answer_from.ensures
-    ∙ (answer_asked s a.demand (end s 0 a.allowance a.store.now) e.value shares
-    ∙ (ap (λ (n : ℕ). answer_of (ending_at n s a.allowance) (structure s) (components s) a.demand) (number_alone s (length a.store.now))
-    ∙ sym (answer_is s a.demand a.allowance (length a.store.now))))
+    let e = c.in_ok-r.ensures in
+    let call = accepted a.sheet.now a.allowance a.store.now e.value e.store_after refl in
+    answer_asked call c.new-list.result c.new-list.ensures refl a.demand (rw (← c.from.ensures) c.shares_at.ensures) c.with_shares.ensures
+    ∙ sym (answer_by a.sheet.now a.demand a.allowance a.store.now a.demand refl)
 
 pub returns-clause-store_after : goal.returns-clause-store_after
 returns-clause-store_after c =
     let a = c.args in
-    let s : List ℕ = a.sheet.now in
-    c.run_sheet-r.ensures.store_after
-    ∙ (ap (λ (n : ℕ). store_at n s a.allowance a.store.now) (number_alone s (length a.store.now)) ∙ sym (store_is s a.allowance a.store.now))
+    let e = c.in_ok-r.ensures in
+    stored a.sheet.now a.allowance a.store.now e.value e.store_after

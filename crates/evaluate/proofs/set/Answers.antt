@@ -1,94 +1,87 @@
--- `evaluate::set` meets its contract: tests and run, and the shares of the list at each demand.
-use Rattle.std.proofs.Common.{arith, ◌≡◌, ℕ, ◌*◌, List, ◌++◌, length, drop, sym, ap, ◌∙◌}
-use Rattle.theory.specs.Structure.{Tree}
-use Rattle.theory.specs.Evaluation.{Evaluation}
-use Rattle.theory.specs.Focal.{Focal}
-use Rattle.plan.specs.Tests.{first_broken}
-use Rattle.records.specs.Records.{records}
-use Rattle.queries.specs.Shares.{shares_bytes, encode_set, demand_tests, Readable}
-use Rattle.evaluate.specs.declared.SheetRun.{SheetRun}
-use Rattle.evaluate.specs.Answer.{sheet_outcomes}
-use Rattle.evaluate.specs.SheetRun.{sheet_run, store_then, sheet_run_of, ending_at, store_at}
-use Rattle.evaluate.specs.Set.{set_tests, shares_by, set_answer, set_store_after, shares_after}
-use Rattle.evaluate.proofs.Numbers.{number_then_is, ended, set_answer_is, set_store_is, shares_is}
-use Rattle.evaluate.proofs.Finish.{number, end, PastRun, past_run, shares_refused, shares_asked}
+-- `evaluate::set` meets its contract: tests and run, and the shares of the list at each demand. Assumes nothing.
+use Rattle.std.proofs.Common.{◌≡◌, ℕ, ◌<◌, List, length, refl, sym, ◌∙◌}
+use Rattle.std.proofs.lemmas.Result.{err_from_is_err_and}
+use Rattle.plan.specs.Tests.{Test, first_broken}
+use Rattle.queries.specs.Shares.{demand_tests}
+use Rattle.evaluate.specs.SheetRun.{SheetRun, sheet_run, store_then}
+use Rattle.evaluate.specs.Set.{set_answer, set_store_after, shares_after}
+use Rattle.theory.proofs.Refusals.{positive}
+use Rattle.evaluate.proofs.Numbers.{set_numbered, set_answer_is, set_store_is}
+use Rattle.evaluate.proofs.Demands.{AcceptedCall, Called, refuses, accepts}
+use Rattle.evaluate.proofs.SetMet.{shares_by_end}
+use Rattle.evaluate.proofs.Asked.{called, inside, summable, shares_asked}
 use Rattle.evaluate.proofs.set.Goals as goal
 
--- Past the run.
-module _ (s demands : List ℕ) (allowance : ℕ) (store shares : List ℕ) {n : ℕ} (own-is : n ≡ first_broken (demand_tests (length demands) (length shares)))
-    {r : SheetRun} {after : List ℕ} (value : r ≡ sheet_run s (length store) n allowance) (stored : after ≡ store_then s n allowance store) where
-  abbrev own : ℕ
-  own = first_broken (demand_tests (length demands) (length shares))
+-- Past tests and run.
+module _ (s demands : List ℕ) (allowance : ℕ) (store shares : List ℕ) {n : ℕ} (own_is : n ≡ first_broken (demand_tests (length demands) (length shares)))
+    {r : SheetRun} {after : List ℕ} (value : r ≡ sheet_run s (length store) n allowance) (left : after ≡ store_then s n allowance store) where
+  abbrev own : List Test
+  own = demand_tests (length demands) (length shares)
 
-  abbrev ending : Evaluation Tree
-  ending = end s own allowance store
+  this : Called s allowance store own r after
+  this = called s allowance store own (set_numbered s demands (length store) (length shares)) own_is value left
 
-  past : PastRun s own allowance store r after
-  past = past_run s own allowance store own-is r after value stored
+  accepted : r.number ≡ 0 → AcceptedCall s allowance store own r after
+  accepted = accepts s allowance store own this
 
-  -- What the contract names, by the number of the call's own tests.
-  number_is : number s own allowance store ≡ first_broken (set_tests s demands (length store) (length shares))
-  number_is = number_then_is s (length store) (demand_tests (length demands) (length shares))
+  answered : r ≡ set_answer s demands allowance (length store) (length shares)
+  answered = this.run_is ∙ sym (set_answer_is s demands allowance (length store) (length shares))
 
-  answer_is : r ≡ set_answer s demands allowance (length store) (length shares)
-  answer_is =
-      past.ran
-      ∙ (ap (λ (n : ℕ). sheet_run_of (ending_at n s allowance) s) number_is ∙ sym (set_answer_is s demands allowance (length store) (length shares)))
+  stored : after ≡ set_store_after s demands allowance store (length shares)
+  stored = this.stored ∙ sym (set_store_is s demands allowance store (length shares))
 
-  store_is : after ≡ set_store_after s demands allowance store (length shares)
-  store_is = past.stored ∙ (ap (λ (n : ℕ). store_at n s allowance store) number_is ∙ sym (set_store_is s demands allowance store (length shares)))
+  kept : (k : ℕ) → 0 < k → r.number ≡ k → shares ≡ shares_after s demands allowance (length store) shares
+  kept k h e = sym (shares_by_end s demands allowance store shares (refuses s allowance store own this k h e))
 
-  shares_are : shares_by ending demands (sheet_outcomes s) shares ≡ shares_after s demands allowance (length store) shares
-  shares_are =
-      ap (λ (n : ℕ). shares_by (ending_at n s allowance) demands (sheet_outcomes s) shares) number_is
-      ∙ sym (shares_is s demands allowance (length store) shares)
-
-  kept : (r.number ≡ 0 → ⊥) → shares ≡ shares_after s demands allowance (length store) shares
-  kept h = shares_refused s demands shares ending past.ran h ∙ shares_are
-
-  readable : Readable after r.intervals
-  readable = past.list.readable
-
-  -- Accepted.
-  module _ (z : r.number ≡ 0) where
-    written : {out : List ℕ} → out ≡ encode_set demands (records r.intervals after) ++ drop (shares_bytes * length demands) shares
-        → out ≡ shares_after s demands allowance (length store) shares
-    written w =
-        w
-        ∙ (ap (λ (l : List Focal). encode_set demands l ++ drop (shares_bytes * length demands) shares) past.list.list_is
-        ∙ (shares_asked s demands shares (ended (number s own allowance store) s allowance) past.ran z ∙ shares_are))
-
-pub returns-then-a-ne0-clause-value : goal.returns-then-a-ne0-clause-value
-returns-then-a-ne0-clause-value c =
+pub returns-in_err-r-clause-value : goal.returns-in_err-r-clause-value
+returns-in_err-r-clause-value c =
     let a = c.args in
-    answer_is a.sheet.now a.demands.now a.allowance a.store.now a.shares.now c.demands_number-own.ensures c.run_sheet-a.ensures.value c.run_sheet-a.ensures.store_after
+    let p = err_from_is_err_and c.from_residual.result c.from_residual.ensures.1 in
+    let e = c.in_err-r.ensures in
+    rw (p.1, p.2) (answered a.sheet.now a.demands.now a.allowance a.store.now a.shares.now c.test_demands-own.ensures e.value e.store_after)
 
-pub returns-then-a-ne0-clause-store_after : goal.returns-then-a-ne0-clause-store_after
-returns-then-a-ne0-clause-store_after c =
+pub returns-in_err-r-clause-store_after : goal.returns-in_err-r-clause-store_after
+returns-in_err-r-clause-store_after c =
     let a = c.args in
-    store_is a.sheet.now a.demands.now a.allowance a.store.now a.shares.now c.demands_number-own.ensures c.run_sheet-a.ensures.value c.run_sheet-a.ensures.store_after
+    let e = c.in_err-r.ensures in
+    stored a.sheet.now a.demands.now a.allowance a.store.now a.shares.now c.test_demands-own.ensures e.value e.store_after
 
-pub returns-then-a-ne0-clause-shares_after : goal.returns-then-a-ne0-clause-shares_after
-returns-then-a-ne0-clause-shares_after c =
+pub returns-in_err-r-clause-shares_after : goal.returns-in_err-r-clause-shares_after
+returns-in_err-r-clause-shares_after c =
     let a = c.args in
-    kept a.sheet.now a.demands.now a.allowance a.store.now a.shares.now c.demands_number-own.ensures c.run_sheet-a.ensures.value c.run_sheet-a.ensures.store_after (λ z. omega arith)
+    let e = c.in_err-r.ensures in
+    kept a.sheet.now a.demands.now a.allowance a.store.now a.shares.now c.test_demands-own.ensures e.value e.store_after _ (positive _) refl
+
+pub new-list-requires : goal.new-list-requires
+new-list-requires c =
+    let a = c.args in
+    let e = c.in_ok-r.ensures in
+    inside (accepted a.sheet.now a.demands.now a.allowance a.store.now a.shares.now c.test_demands-own.ensures e.value e.store_after refl)
+
+pub put_set-requires-clause-summable : goal.put_set-requires-clause-summable
+put_set-requires-clause-summable c =
+    let a = c.args in
+    let e = c.in_ok-r.ensures in
+    let call = accepted a.sheet.now a.demands.now a.allowance a.store.now a.shares.now c.test_demands-own.ensures e.value e.store_after refl in
+    summable call c.new-list.result c.new-list.ensures refl
 
 pub returns-clause-value : goal.returns-clause-value
 returns-clause-value c =
     let a = c.args in
-    answer_is a.sheet.now a.demands.now a.allowance a.store.now a.shares.now c.demands_number-own.ensures c.run_sheet-a.ensures.value c.run_sheet-a.ensures.store_after
+    let e = c.in_ok-r.ensures in
+    answered a.sheet.now a.demands.now a.allowance a.store.now a.shares.now c.test_demands-own.ensures e.value e.store_after
 
 pub returns-clause-store_after : goal.returns-clause-store_after
 returns-clause-store_after c =
     let a = c.args in
-    store_is a.sheet.now a.demands.now a.allowance a.store.now a.shares.now c.demands_number-own.ensures c.run_sheet-a.ensures.value c.run_sheet-a.ensures.store_after
+    let e = c.in_ok-r.ensures in
+    stored a.sheet.now a.demands.now a.allowance a.store.now a.shares.now c.test_demands-own.ensures e.value e.store_after
 
 pub returns-clause-shares_after : goal.returns-clause-shares_after
 returns-clause-shares_after c =
     let a = c.args in
-    written a.sheet.now a.demands.now a.allowance a.store.now a.shares.now c.demands_number-own.ensures c.run_sheet-a.ensures.value c.run_sheet-a.ensures.store_after (omega arith) c.put_set.ensures
-
-pub put_set-requires-clause-readable : goal.put_set-requires-clause-readable
-put_set-requires-clause-readable c =
-    let a = c.args in
-    readable a.sheet.now a.demands.now a.allowance a.store.now a.shares.now c.demands_number-own.ensures c.run_sheet-a.ensures.value c.run_sheet-a.ensures.store_after
+    let e = c.in_ok-r.ensures in
+    let call = accepted a.sheet.now a.demands.now a.allowance a.store.now a.shares.now c.test_demands-own.ensures e.value e.store_after refl in
+    c.put_set.ensures
+    ∙ (shares_asked call c.new-list.result c.new-list.ensures refl a.demands.now a.shares.now
+    ∙ sym (shares_by_end a.sheet.now a.demands.now a.allowance a.store.now a.shares.now refl))

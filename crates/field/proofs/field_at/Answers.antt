@@ -4,7 +4,7 @@ use Prim.Native.Nat.{ℕ, ◌+◌, ◌%◌, ◌^◌}
 use native.Mathlib.Omega.{arith}
 use mathlib.Core.List.{List}
 use Rattle.field.specs.Bits.{field_at, window_at}
-use Rattle.field.proofs.Field.{field_below, window_last}
+use Rattle.field.proofs.FieldLaws.{field_below, window_last}
 use Rattle.field.proofs.field_at.Goals as goal
 
 -- The lowest w bits of the window of w bits.

@@ -1,13 +1,7 @@
--- `field::put_field` meets its contract. The invariant: the lowest bits are put, from bit i of the field on, and x holds the others.
--- Assumes nothing.
-use mathlib.Core.Path.{◌≡◌}
-use Prim.Native.Nat.{◌+◌, ◌-◌, ◌/◌, ◌^◌, ◌≤◌}
+-- `field::put_field` meets its contract. The invariant: the lowest bits are put, from bit i of the field on, and x holds the others. Assumes nothing.
+use Rattle.std.proofs.Common.{◌≡◌, ◌+◌, ◌-◌, ◌/◌, ◌^◌}
 use Rattle.field.specs.Bits.{put_at}
 use Rattle.field.proofs.put_field.Given as goal
 
 abbrev pub invariant-loop-i : goal.invariant-loop-i
-invariant-loop-i l =
-    (l.i ≤ l.width) × (l.x ≡ l.value / 2 ^ (l.width - l.i)) × (l.dst ≡ put_at l.initial.dst (l.at + l.i) (l.width - l.i) l.value)
-
-abbrev pub decreases-loop-i : goal.decreases-loop-i
-decreases-loop-i l = l.i
+invariant-loop-i l = (l.x ≡ l.value / 2 ^ (l.width - l.i)) × (l.dst ≡ put_at l.initial.dst (l.at + l.i) (l.width - l.i) l.value)

@@ -2,7 +2,7 @@
 use Prim.Native.Nat.{◌+◌, ◌-◌, ◌/◌}
 use native.Mathlib.Omega.{arith}
 use Rattle.numbers.specs.Numbers.{Bytes}
-use Rattle.field.proofs.Field.{window_out, number_field}
+use Rattle.field.proofs.FieldLaws.{window_out, number_field}
 use Rattle.field.proofs.window.Goals as goal
 
 pub returns : goal.returns

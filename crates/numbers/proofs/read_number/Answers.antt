@@ -1,36 +1,38 @@
--- `numbers::read_number` meets its contract. The invariant: the bytes passed spell the number so far. Assumes nothing.
-use mathlib.Core.Path.{◌≡◌, ap, ◌∙◌}
-use Prim.Native.Nat.{◌+◌, ◌-◌}
-use native.Mathlib.Omega.{arith}
+-- `numbers::read_number` meets its contract. Assumes nothing.
+use Rattle.std.proofs.Common.{◌≡◌, ◌<◌, ◌+◌, ◌-◌, ◌^◌, ℕ, refl, arith, get_or-drop, get_or-take, length-drop, length-take}
 use Rattle.numbers.specs.Numbers.{onto, number_at}
-use Rattle.numbers.proofs.Numbers.{pow7, grow, number_next}
+use Rattle.numbers.proofs.Numbers.{pow7, number_lt, number_next}
 use Rattle.numbers.proofs.read_number.Goals as goal
+use Rattle.numbers.proofs.read_number.Goals.{In-loop-x}
 
-pub loop-i-init : goal.loop-i-init
+pub loop-x-init : goal.loop-x-init
 unfolding onto
-loop-i-init c =
-    let e : c.args.at - c.args.at ≡ 0 = omega arith in
-    (omega arith, omega arith, rw e (omega arith), rw e)
+loop-x-init c = refl
+
+in_part : (c : In-loop-x) → c.loop-x.x-index < c.args.n
+in_part c = omega (arith, length-take {A = ℕ})
+
+-- At most seven bytes are passed.
+small : (c : In-loop-x) → c.loop-x.acc < 2 ^ 56
+small c =
+    let k : ℕ = c.loop-x.x-index in
+    let p : number_at c.args.s.now c.args.at k < 256 ^ k = number_lt c.args.s.now c.args.at k (λ i. (c.type_inv.s i).fits) in
+    omega (arith, pow7 k (omega (arith, in_part c)))
 
 pub overflow_mul-acc : goal.overflow_mul-acc
-overflow_mul-acc c = rw c.pow2-base.ensures (omega (arith, pow7 (c.loop-i.i - c.args.at) (omega arith)))
+overflow_mul-acc c = rw c.pow2-base.ensures (omega (arith, small c))
 
 pub overflow_add-acc : goal.overflow_add-acc
-overflow_add-acc c = rw c.pow2-base.ensures (omega (arith, pow7 (c.loop-i.i - c.args.at) (omega arith)))
+overflow_add-acc c = rw c.pow2-base.ensures (omega (arith, small (goal.at.overflow_add-acc c).In-loop-x))
 
-pub loop-i-preserved : goal.loop-i-preserved
-loop-i-preserved c =
-    let a = c.args in
-    let l = c.loop-i in
-    let b = c.wide.ensures in
-    let k = l.i - a.at in
-    let e : l.i + 1 - a.at ≡ k + 1 = omega arith in
-    let at : a.at + k ≡ l.i = omega arith in
-    rw c.pow2-base.ensures
-    (omega arith, omega arith, rw e (grow l.acc _ k l.invariant.2 b.1), rw (l.invariant.3, b.0, e, number_next a.s.now a.at k (omega arith), at))
+pub loop-x-preserved : goal.loop-x-preserved
+loop-x-preserved c =
+    let k : ℕ = c.loop-x.x-index in
+    let lt : k < c.args.at + c.args.n - c.args.at = omega (arith, in_part (goal.at.loop-x-preserved c).In-loop-x) in
+    rw
+    (number_next c.args.s.now c.args.at k (omega arith), c.pow2-base.ensures, c.from.ensures, c.loop-x.invariant, get_or-take, get_or-drop)
 
 pub returns : goal.returns
 returns c =
-    let a = c.args in
-    let e : c.loop-i.i - a.at ≡ a.n = omega arith in
-    c.loop-i.invariant.3 ∙ ap (number_at a.s.now a.at) e
+    let e : c.loop-x.x-index ≡ c.args.n = omega (arith, length-take {A = ℕ}, length-drop {A = ℕ}) in
+    rw (← e) c.loop-x.invariant

@@ -1,26 +1,16 @@
 -- `plan::bad_entries` meets its contract. Assumes nothing.
-use mathlib.Core.Path.{sym, ap, ◌∙◌}
-use native.Mathlib.Omega.{arith}
+use Rattle.std.proofs.Common.{sym, ◌∙◌, rules}
+use borrow.Author.Tests.{tests}
+use Rattle.std.proofs.lemmas.Iterator.{YieldsList-from_slice}
+use Rattle.std.proofs.lemmas.Iterator.Search.{any_from_yields_List}
+use Rattle.theory.specs.Codes.{entry_of}
 use Rattle.plan.specs.Rules.{bad_entry, rule9}
-use Rattle.plan.proofs.Entries.{any_entry}
-use Rattle.plan.proofs.Loops.{search_hits, search_goes_on, search_ends}
+use Rattle.plan.proofs.Tests.{any_list, any_map}
 use Rattle.plan.proofs.bad_entries.Goals as goal
-
-pub returns-then-bad_entry : goal.returns-then-bad_entry
-unfolding rule9
-returns-then-bad_entry c =
-    let a = c.args in
-    let e = ap (bad_entry a.n) (sym c.entry_of.ensures.value) ∙ sym c.bad_entry.ensures in
-    search_hits c.loop-j.invariant (omega arith) (e ∙ c.if-bad_entry.true) ∙ sym (any_entry (bad_entry a.n) a.entries a.n)
-
-pub loop-j-preserved : goal.loop-j-preserved
-loop-j-preserved c =
-    let a = c.args in
-    let e = ap (bad_entry a.n) (sym c.entry_of.ensures.value) ∙ sym c.bad_entry.ensures in
-    search_goes_on c.loop-j.invariant (omega arith) (e ∙ c.if-bad_entry.false)
 
 pub returns : goal.returns
 unfolding rule9
 returns c =
-    let a = c.args in
-    search_ends c.loop-j.invariant (omega arith) ∙ sym (any_entry (bad_entry a.n) a.entries a.n)
+    let codes = c.args.codes.now in
+    any_from_yields_List (λ code. bad_entry c.args.n (entry_of code)) _ _ c.any.result c.any.ensures.ran (YieldsList-from_slice codes cc) (λ x b q k. search (rules, tests))
+    ∙ any_list _ codes ∙ sym (any_map (bad_entry c.args.n) entry_of codes)

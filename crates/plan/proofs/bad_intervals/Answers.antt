@@ -1,11 +1,14 @@
 -- `plan::bad_intervals` meets its contract. Assumes nothing.
-use mathlib.Core.Path.{sym, ◌∙◌}
-use native.Mathlib.Omega.{arith}
-use Rattle.plan.proofs.Loops.{search_hits, search_goes_on}
+use Rattle.std.proofs.Common.{refl, ◌∙◌, rules, arith}
+use borrow.Author.Tests.{tests}
+use Rattle.std.proofs.lemmas.Iterator.{YieldsList-from_range}
+use Rattle.std.proofs.lemmas.Iterator.Search.{any_from_yields_List}
+use Rattle.plan.specs.Rules.{bad_interval}
+use Rattle.plan.proofs.Tests.{any_range}
 use Rattle.plan.proofs.bad_intervals.Goals as goal
 
-pub returns-then-bad_interval : goal.returns-then-bad_interval
-returns-then-bad_interval c = search_hits c.loop-j.invariant (omega arith) (sym c.bad_interval.ensures ∙ c.if-bad_interval.true)
-
-pub loop-j-preserved : goal.loop-j-preserved
-loop-j-preserved c = search_goes_on c.loop-j.invariant (omega arith) (sym c.bad_interval.ensures ∙ c.if-bad_interval.false)
+pub returns : goal.returns
+returns c =
+    let d = c.args.c.now in
+    any_from_yields_List (bad_interval d) _ _ c.any.result c.any.ensures.ran (YieldsList-from_range 0 d.count d.count refl (omega arith)) (λ x b q k. search (rules, tests))
+    ∙ any_range (bad_interval d) d.count

@@ -6,6 +6,7 @@ use native.Mathlib.Nat.{mul-add, mul_left_comm}
 use native.Mathlib.Omega.{arith}
 use lib.Dec.{leb}
 use borrow.Author.Tests.{leb-true, leb-false, le-leb, lt-leb}
+use Rattle.std.specs.Int.{div_ceil}
 use Rattle.theory.specs.Limits.{thousandths}
 use Rattle.theory.specs.Speed.{meets}
 use Rattle.queries.proofs.target_met.Goals as goal
@@ -18,7 +19,7 @@ split target total =
 
 -- Its thousandth, rounded up.
 abbrev least : ℕ → ℕ → ℕ
-least target total = target * (total / 1000) + (target * (total % 1000) + 999) / 1000
+least target total = target * (total / 1000) + div_ceil (target * (total % 1000)) thousandths
 
 compared : (target total share : ℕ) → leb (least target total) share ≡ meets target total share
 compared target total share = go (meets target total share) refl
@@ -28,4 +29,4 @@ compared target total share = go (meets target total share) refl
     go false e = lt-leb (least target total) share (omega (arith, split target total, leb-false (target * total) (thousandths * share) e))
 
 pub returns : goal.returns
-returns c = compared c.args.target c.args.total c.args.share
+returns c = rw (c.div_ceil.ensures, c.from-t.ensures) (compared c.args.target c.args.total c.args.share)

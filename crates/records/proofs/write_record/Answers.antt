@@ -2,7 +2,7 @@
 use mathlib.Core.Path.{◌∙◌}
 use Prim.Native.Nat.{◌*◌}
 use native.Mathlib.Omega.{arith}
-use Rattle.records.proofs.Records.{key_stored}
+use Rattle.records.proofs.RecordLaws.{key_stored}
 use Rattle.records.proofs.write_record.Goals as goal
 
 pub returns : goal.returns

@@ -1,11 +1,8 @@
--- `run::run_plan` meets its contract. The invariant: what holds while the entries from place i on are left.
-use Rattle.std.proofs.Common.{◌≤◌, ◌-◌, drop}
-use Rattle.plan.specs.Plan.{entries_of}
+-- `run::run_plan` meets its contract. The invariant: what holds while the codes from the index on are left. Assumes nothing.
+use Rattle.std.proofs.Common.{drop, map}
+use Rattle.theory.specs.Codes.{entry_of}
 use Rattle.run.proofs.Running.{Running}
 use Rattle.run.proofs.run_plan.Given as goal
 
-abbrev pub invariant-loop-i : goal.invariant-loop-i
-invariant-loop-i l = (l.i ≤ l.m) × Running l.p l.allowance l.initial.store (drop l.i (entries_of l.p)) l.store l.stack
-
-abbrev pub decreases-loop-i : goal.decreases-loop-i
-decreases-loop-i l = l.m - l.i
+abbrev pub invariant-loop-code : goal.invariant-loop-code
+invariant-loop-code l = Running l.fn.p l.allowance l.initial.store (map entry_of (drop l.code-index l.code-items)) l.store l.stack

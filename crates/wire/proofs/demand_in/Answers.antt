@@ -1,5 +1,6 @@
 -- `wire::demand_in` meets its contract. Assumes nothing.
-use Rattle.std.proofs.Common.{◌*◌, arith}
+use Prim.Native.Nat.{◌*◌}
+use native.Mathlib.Omega.{arith}
 use Rattle.numbers.proofs.Numbers.{number_lt}
 use Rattle.wire.specs.Demands.{demand_bytes}
 use Rattle.wire.proofs.demand_in.Goals as goal

@@ -1,5 +1,6 @@
 -- `wire::encode_numbers` meets its contract: each number goes behind those already written. Assumes nothing.
-use Rattle.std.proofs.Common.{◌+◌, ◌*◌, take}
+use Prim.Native.Nat.{◌+◌, ◌*◌}
+use lib.ListN.{take}
 use Rattle.numbers.proofs.Numbers.{Placed}
 use Rattle.wire.specs.Wire.{number_bytes, encode_numbers}
 use Rattle.wire.proofs.encode_numbers.Given as goal

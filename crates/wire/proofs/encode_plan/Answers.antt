@@ -1,12 +1,15 @@
 -- `wire::encode_plan` meets its contract: n, each component and the entries go one behind the other. Assumes nothing.
-use Rattle.std.proofs.Common.{◌≡◌, ◌+◌, ◌*◌, ◌<◌, refl, arith, length, get_or}
+use mathlib.Core.Path.{◌≡◌, refl}
+use Prim.Native.Nat.{◌+◌, ◌*◌, ◌<◌}
+use native.Mathlib.Omega.{arith}
+use lib.ListN.{length, get_or}
 use lib.Seq.{take-length}
 use Rattle.theory.specs.Sums.{for_each}
 use Rattle.theory.specs.Lists.{no_component}
 use Rattle.numbers.specs.Numbers.{big_endian}
 use Rattle.numbers.proofs.Numbers.{placed_none, placed_next}
 use Rattle.wire.specs.Wire.{encode_numbers, component_numbers_of}
-use Rattle.wire.proofs.Encoding.{encoded_next, plan_parts}
+use Rattle.wire.proofs.Encoding.{numbers_placed, encoded_next, plan_parts}
 use Rattle.wire.proofs.encode_plan.Goals as goal
 
 pub loop-i-preserved : goal.loop-i-preserved
@@ -30,5 +33,5 @@ returns c =
     let p1 = placed_next 0 2 (big_endian 2 p.count) p0 refl (omega arith) (omega arith) (omega arith) c.write_number.ensures in
     let p2 = placed_next 2 314 (encode_numbers (for_each p.components component_numbers_of)) p1 refl (omega arith) (omega arith) (omega arith)
     (rw (e, take-length, six) at c.loop-i.invariant.is) in
-    let p3 = placed_next 314 336 (encode_numbers p.entries) p2 refl (omega arith) (omega arith) (omega arith) (rw eleven at c.encode_numbers.ensures) in
-    rw (plan_parts p) at p3.is
+    let p3 = numbers_placed 157 p.entries p2 refl (omega arith) (omega arith) c.encode_numbers.ensures in
+    rw (eleven, plan_parts p) at p3.is

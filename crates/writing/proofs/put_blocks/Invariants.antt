@@ -1,12 +1,16 @@
--- `writing::put_blocks` meets its contract: from block i on, what is left to write gives all the blocks. Assumes nothing.
+-- `writing::put_blocks` meets its contract: the blocks so far stand in out, and `end` is the byte behind them. Assumes nothing.
 use mathlib.Core.Path.{◌≡◌}
-use Prim.Native.Nat.{◌+◌, ◌*◌}
-use lib.ListN.{length}
+use Prim.Native.Nat.{◌*◌}
+use lib.ListN.{take}
+use Rattle.theory.specs.Sums.{for_each}
 use Rattle.field.specs.Fields.{put_all}
-use Rattle.writing.specs.Writing.{end_of, block_fields}
-use Rattle.writing.proofs.Sizes.{bytes_left, fields_left}
+use Rattle.block.specs.Block.{fields_of}
+use Rattle.plan.specs.Sheet.{head_bytes}
+use Rattle.writing.proofs.Sizes.{end_after}
 use Rattle.writing.proofs.put_blocks.Given as goal
 
-abbrev pub invariant-loop-i : goal.invariant-loop-i
-invariant-loop-i l =
-    (l.end + bytes_left l.p l.i ≡ end_of l.p) × (put_all l.out (8 * l.end) (fields_left l.p l.i) ≡ put_all l.initial.out 16 (block_fields l.p)) × (length l.out ≡ length l.initial.out)
+abbrev pub invariant-loop-c : goal.invariant-loop-c
+invariant-loop-c l = record {
+  end_is : l.end ≡ end_after l.c-items l.c-index;
+  out_is : l.out ≡ put_all l.initial.out (8 * head_bytes) (for_each (take l.c-index l.c-items) fields_of);
+}

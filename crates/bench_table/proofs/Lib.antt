@@ -1,0 +1,2 @@
+-- Laws of the rows' sheets and lists.
+pub mod Rows

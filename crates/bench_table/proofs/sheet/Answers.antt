@@ -1,0 +1,12 @@
+-- `bench_table::sheet` meets its contract. Assumes nothing.
+use Rattle.bench_table.specs.Rows.{chain, sheet_of}
+use Rattle.bench_table.proofs.Rows.{written_within, written_length}
+use Rattle.bench_table.proofs.sheet.Goals as goal
+
+pub invariant_of-result : goal.invariant_of-result
+invariant_of-result c = record { inside = rw (written_length _ _ c.write_sheet.ensures.value c.unwrap_or-length.ensures) (written_within _ _) }
+
+pub returns : goal.returns
+unfolding chain sheet_of
+returns c =
+    rw (written_length _ _ c.write_sheet.ensures.value c.unwrap_or-length.ensures, c.write_sheet.ensures.out_after, c.copy_from_slice.ensures.after, c.zeros.ensures, c.code_of-code.ensures)

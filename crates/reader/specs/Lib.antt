@@ -1,2 +1,0 @@
--- Fields that a reader takes.
-pub mod Fields
