@@ -103,7 +103,7 @@ fn single_speeds(total: u16, speeds: &[u16]) -> Component
     }
 }
 
-// The code of a join in a structure.
+// The code of a join in a structure. No `From`: neither type is this crate's.
 fn code_of(join: Join) -> u16
     ensures { result ≡ join_code join }
 {
@@ -172,7 +172,7 @@ fn d_with(count: u16) -> Sheet
 {
     let d1 = single_speeds(8, &D1_SPEEDS);
     let d2 = single_speeds(8, &D2_SPEEDS);
-    let d3 = single_speeds(count, &D3_SPEEDS[..count as usize]);
+    let d3 = single_speeds(count, &D3_SPEEDS[..usize::from(count)]);
     sheet(&[d1, d2, d3], Join::Shared)
 }
 
@@ -317,7 +317,7 @@ impl<'a> Call<'a> {
     }
 }
 
-// The numbers in a shares' buffer.
+// The numbers in a shares' buffer. A loop: a closure for `array::from_fn` would not be known to read this buffer.
 fn numbers_in(shares: &[u8; SHARES_ROOM]) -> [u64; SHARES_HELD]
     ensures { result ≡ numbers_of shares.now }
 {

@@ -28,8 +28,8 @@ const BLOCK_HEAD_BYTES: usize = BLOCK_HEAD_BITS / 8;
 
 const INTERVAL_BITS: usize = SPEED_BITS + SPEED_BITS + WEIGHT_BITS;
 
-// What stands at the front of a part of a sheet that is not cut short: whether a bit of it that is named zero is one (number 5), its bytes,
-// and its component.
+// What stands at the front of a part of a sheet that is not cut short: whether a bit of it that is named zero is one (number 5, and no
+// refusal here: number 4 of a later block comes first), how many bytes it has, and its component.
 #[derive(Clone, Copy)]
 pub struct Block {
     pub nonzero: bool,

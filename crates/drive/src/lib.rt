@@ -19,7 +19,7 @@ const SPEED_ANSWER_BYTES: usize = 48;
 
 const SET_ANSWER_BYTES: usize = 24;
 
-// Writes numbers of 8 bytes each at the front of a buffer that holds them. (Crate wire writes numbers of 16 bits, each its own value, in 2.)
+// Writes numbers of 8 bytes each at the front of a buffer that holds them. (Crate wire writes numbers of 16 bits, 2 bytes each.)
 fn put_numbers(ns: &[u64], buffer: &mut [u8])
     requires { 8 * length ns.now ≤ length buffer.old }
     ensures { buffer.new ≡ for_each ns.now (big_endian 8) ++ drop (8 * length ns.now) buffer.old }

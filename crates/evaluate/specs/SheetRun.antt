@@ -27,15 +27,16 @@ pub record SheetRun : Type 0 where
 abbrev pub without_shares : Answer → SheetRun
 without_shares a = record { number = a.number; total = a.total; pairs = a.pairs; intervals = a.intervals }
 
--- A refusal's number and zeros; or 0, U, the pairs formed and the length of the drive's list: those of an ordinary call, at any demand.
+-- A refusal's number and zeros.
 abbrev pub refused_run : ℕ → SheetRun
 refused_run number = without_shares (refusal number)
 
--- The same of each case of what tests and run answer.
+-- The number and the values of each case of what tests and run answer.
 abbrev pub run_as : Result AcceptedRun Refusal → SheetRun
 run_as (Ok r) = record { number = 0; total = r.total; pairs = r.pairs; intervals = r.intervals }
 run_as (Err r) = refused_run (refusal_number r)
 
+-- What a call answers by what it ends in: that, or 0, U, the pairs formed and the length of the drive's list, as an ordinary call at any demand.
 abbrev pub sheet_run_of : Evaluation Tree → List ℕ → SheetRun
 sheet_run_of end sheet = without_shares (answer_of end (structure sheet) (components sheet) 0)
 

@@ -70,6 +70,7 @@ pub fn put_field(dst: &mut [u8], at: usize, width: usize, value: u32)
 {
     let two = powers::pow2(1);
     let mut x = u64::from(value);
+    // Bits have no slice: by place, the lowest first.
     for i in (0..width).rev() {
         put_bit(dst, at + i, x % two);
         x /= two;

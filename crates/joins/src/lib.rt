@@ -159,6 +159,7 @@ fn put_listed(c: Component, out: &mut [u8]) -> Listing
     let mut count = 0;
     let mut hint = 0;
     let mut rest = u64::from(c.total);
+    // By place: an interval's three numbers lie in three arrays, as document 01 has them.
     for i in (0..c.count).rev() {
         // The weight is read here: that it has 16 bits is not known of what focal_at answers.
         let weight = u64::from(c.weights[i]);

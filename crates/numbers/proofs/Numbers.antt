@@ -1,4 +1,4 @@
--- Laws of numbers in bytes: one step along a list, bytes put in one after the other, and numbers there and back. Assumes nothing.
+-- Laws of numbers in bytes: parts of a list, bytes put in one after the other, and numbers there and back. Assumes nothing.
 use mathlib.Core.Path.{◌≡◌, refl, sym, ap, ◌∙◌}
 use mathlib.Core.List.{List, [], ◌∷◌, ◌++◌, append_assoc}
 use Prim.Native.Nat.{ℕ, zero, suc, ◌+◌, ◌*◌, ◌-◌, ◌/◌, ◌%◌, ◌^◌, ◌≤◌, ◌<◌}
@@ -10,10 +10,7 @@ use lib.ListN.{length, take, drop, get_or, set, take-append-drop, length-take, l
 use lib.Seq.{drop-cons, take-suc, append_snoc, set_at, length-take-le, take_all, take_at, get_or-drop, drop-drop, drop-append-add}
 use Rattle.numbers.specs.Numbers.{Bytes, big_endian, onto, number_at}
 
--- ---- one step along a list
-
-pub part_cons : (s : List ℕ) (k m : ℕ) → k < length s → take (m + 1) (drop k s) ≡ get_or s k 0 ∷ take m (drop (k + 1) s)
-part_cons s k m h = rw (add-one, drop-cons s k 0, add-one k)
+-- ---- parts of a list
 
 -- The part from k to the end is the rest.
 pub part_rest : (s : List ℕ) (k : ℕ) → take (length s - k) (drop k s) ≡ drop k s

@@ -24,7 +24,7 @@ pub fn write_number(s: &mut [u8], at: usize, n: usize, v: u64)
     ensures { s.new ≡ take at s.old ++ (big_endian n v ++ drop (at + n) s.old) }
 {
     let mut x = v;
-    // Counted from 0, so that the compiler makes one store of it at a constant n.
+    // The place counts from `at`, so that the compiler makes one store of it at a constant n.
     for i in (0..n).rev() {
         s[at + i] = (x % 256) as u8;
         x /= 256;

@@ -45,7 +45,7 @@ bad_interval c j = bad_alone (focal_at c j) || ltb 0 j && not (after (focal_at c
 abbrev pub bad_intervals : Component → Bool
 bad_intervals c = any_of (bad_interval c) (count_from 0 c.count)
 
--- 8. A component's weights exceed T.
+-- 8. A component's weights exceed T (document 02, request four).
 abbrev pub bad_sum : Component → Bool
 bad_sum c = ltb c.total (weights (listed c))
 

@@ -17,7 +17,7 @@ use theory::{
 
 // The components of a drive and its structure: the first `count` components and the first 2 `count` - 1 entries are in use.
 // The entries are the sheet's codes: each code stands for one entry, but not each entry has a code of its own, as component 8 would have
-// that of series. `count` may be above six until rule 3 has looked: a maker's plan is refused by number, so no slice can be its form.
+// that of series. `count` may be above six until rule 3 has looked: a maker's plan is refused by number, so it keeps arrays and a count.
 #[derive(Clone, Copy)]
 pub struct Plan {
     pub components: [Component; MOST_COMPONENTS],
@@ -126,7 +126,7 @@ fn bad_sum(c: &Component) -> bool
     u64::from(c.total) < sum
 }
 
-// Which of the rules 6, 7 and 8 are broken.
+// Which of the rules 6, 7 and 8 are broken: a flag for each, since another component may break a rule with a smaller number.
 #[derive(Clone, Copy, Default)]
 pub struct Flaws {
     pub total: bool,

@@ -103,7 +103,7 @@ pub fn speed_for(list: Records, target: u32, total: u64) -> u64
 {
     let mut belief: u64 = 0;
     let mut i = 0;
-    // A `for` yields no value by `break`.
+    // Document 02 names this form: a loop that yields the speed by `break`.
     loop {
         if i == list.count {
             break 0;

@@ -14,8 +14,8 @@ use plan::{
 use reader::Reader;
 use theory::{Component, MOST_COMPONENTS, MOST_ENTRIES, Refusal};
 
-// The blocks of a sheet, read in turn, where none is cut short: the components, whether a bit named zero is one (number 5), which of the
-// rules 6, 7 and 8 some component breaks, and the byte behind the last block.
+// The blocks of a sheet, read in turn, where none is cut short: the components, in a row of six (no heap), whether a bit named zero is one
+// (number 5), which of the rules 6, 7 and 8 some component breaks, and the byte behind the last block.
 #[derive(Clone, Copy)]
 pub struct Blocks {
     pub components: [Component; MOST_COMPONENTS],

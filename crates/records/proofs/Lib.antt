@@ -1,4 +1,4 @@
--- What is proved of bytes, records and lists beside the functions.
+-- What is proved of records and lists beside the functions.
 pub mod RecordLaws
 pub mod Place
 pub mod Inserting

@@ -1,4 +1,4 @@
--- "Pairs, allowance and store": bytes moved, cleared and written in a buffer, and lists that stand in it. Assumes nothing.
+-- "Pairs, allowance and store": records written and bytes cleared in a buffer, and lists that stand in it. Assumes nothing.
 use Rattle.std.specs.Prelude.{ℕ, ◌+◌, ◌*◌, ◌-◌, List, ◌++◌, length, take, drop, replicate}
 use Rattle.theory.specs.declared.Focal.{Focal}
 use Rattle.theory.specs.Limits.{record_bytes}
@@ -11,10 +11,6 @@ replaced s start n others = take start s ++ (others ++ drop (start + n) s)
 -- In s record i is written.
 abbrev pub with_record : List ℕ → ℕ → Focal → List ℕ
 with_record s i f = replaced s (record_bytes * i) record_bytes (bytes_of f)
-
--- The n bytes of s from `start` on are copied to the front of t.
-abbrev pub copied_from : List ℕ → ℕ → ℕ → List ℕ → List ℕ
-copied_from s start n t = take n (drop start s) ++ drop n t
 
 -- In s the bytes from `from` up to `to` are zero.
 abbrev pub zeroed : List ℕ → ℕ → ℕ → List ℕ

@@ -33,8 +33,7 @@ impl<'a> Records<'a> {
         Records { bytes, count }
     }
 
-    // Record i. Each number is one load; the weight is taken in two halves, so that it is loads too. Lists are walked by this: an iterator
-    // would be a struct and an impl of its own, for three loops.
+    // Record i. Each number is one load; the weight is taken in two halves of 32 bits, so that it is loads too.
     pub fn get(&self, i: usize) -> Focal
         requires { i < self.now.count }
         ensures { result ≡ record_at self.now.bytes.now i }
@@ -78,7 +77,7 @@ impl<'a> Records<'a> {
         requires between { (from ≤ place (keyed key 0) (records_of self.now)) × (place (keyed key 0) (records_of self.now) ≤ to) × (to ≤ self.now.count) }
         ensures { result ≡ place (keyed key 0) (records_of self.now) }
     {
-        // By hand: `partition_point` is for a slice of records, and these are bytes that C lends.
+        // By hand: these are bytes that C lends, and not a slice of records.
         let mut lo = from;
         let mut hi = to;
         while lo < hi {
@@ -141,8 +140,8 @@ fn write_record(s: &mut [u8], i: usize, key: u64, weight: u64)
     numbers::write_number(s, RECORD_BYTES * i, 4, key);
 }
 
-// Puts the key's interval with its weight into the list of the first n records: an equal interval gets the weight added. None where that
-// would make 257: then all bytes stay as they are.
+// Puts the key's interval with its weight into the list of the first n records: an equal interval gets the weight added. None where
+// the list would then have 257: all bytes stay as they are.
 #[tactic(auto, using(crate::proofs::Place::place_count))]
 pub fn insert(s: &mut [u8], n: usize, key: u64, weight: u64, hint: usize) -> Option<Insertion>
     requires { Insertable s.old n weight }

@@ -10,8 +10,8 @@ use joins::Span;
 use plan::Plan;
 use theory::{Component, Entry, Join, MOST_COMPONENTS, RECORD_BYTES, Refusal, STORE_BYTES};
 
-// The lists on the stack, the first `depth` in use; the byte behind them all; the pairs formed so far. No heap: a vector of fixed capacity
-// (ArrayVec) in place of array and depth is as long, takes two unwraps, and is a further crate in what C links.
+// The lists on the stack, the first `depth` in use; the byte behind them all; the pairs formed so far. No heap: a vector of fixed capacity in
+// place of array and depth would be as long, with two unwraps and a further crate in what C links.
 #[derive(Clone, Copy)]
 pub struct Stack {
     pub lists: [Span; MOST_COMPONENTS],

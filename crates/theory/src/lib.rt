@@ -100,7 +100,7 @@ pub enum Entry {
     Join(Join),
 }
 
-// What a code stands for. The code is that of the entry.
+// What a code stands for: an entry that has this code.
 impl From<u16> for Entry {
     ghost from_gives = { λ code e. (e ≡ entry_of code) × (code_of e ≡ code) };
 
@@ -114,7 +114,7 @@ impl From<u16> for Entry {
     }
 }
 
-// Why a sheet, a plan or a call is refused, in the order of the numbers: specs/Refusals.antt has them with the documents' words.
+// Why a sheet, a plan or a call is refused: specs/Refusals.antt has the numbers, and what breaks each rule stands with its test.
 #[derive(Clone, Copy, PartialEq, Eq)]
 pub enum Refusal {
     Length,

@@ -25,7 +25,7 @@ use Rattle.plan.specs.Rules.{rule3, bad_count, rule4, rules, AllHeld, Sized}
 use Rattle.writing.specs.Writing.{Written, number_of, length_of, sheet_fields, plan_tests, writer_tests, written, written_as, written_of, bytes_by, bytes_after}
 use Rattle.plan.proofs.Numbers.{no_number, none_broken, accepted_by, refused_by, first_found, first_none}
 use Rattle.plan.proofs.Tests.{every_failed, within}
-use Rattle.plan.proofs.Valid.{sized}
+use Rattle.plan.proofs.Valid.{all_held, sized}
 
 pub number_written : (k len : ℕ) → (written k len).number ≡ k
 number_written zero len = refl
@@ -98,11 +98,6 @@ accepted_bytes p s e = rw e
 
 -- ---- the tests one after the other, and the answer that they come to
 
--- What rule 4 leaves.
-pub held : (cs : List Component) → rule4 cs ≡ false → AllHeld cs
-unfolding rule4
-held cs = every_failed bad_count cs (λ c h. (within 1 most_held c.count h).1)
-
 module _ (p : Plan) where
   -- Where the plan's own rules are kept, it has a size, and 15 decides.
   module _ (e : 0 ≡ first_broken (plan_tests p)) where
@@ -130,7 +125,7 @@ module _ (p : Plan) where
     answered_refused r e = written_same (refusal_number r) 0 (length_of p) (λ z. absurd (numbered r z)) ∙ ap (λ k. written k (length_of p)) e
 
 -- What the tests of a plan go by, and those of a plan and a buffer.
-pub ruleset kept_tests = (passed, held)
+pub ruleset kept_tests = (passed, all_held)
 
 pub ruleset deciding_tests = (answered_refused, plan_decides, is_sized, room_decides, written_length)
 

@@ -26,7 +26,8 @@ use Rattle.theory.specs.Codes.{entry_of}
 use Rattle.plan.specs.Rules.{rule3, bad_count, rule4, bad_total, bad_alone, after, bad_interval, bad_intervals, bad_sum, flaws_in, flaw_tests, structure_tests, rules, AllHeld}
 use Rattle.plan.proofs.Tests.{any_map, any_alike, map_below, within}
 use Rattle.writing.specs.Writing.{number_of, length_of, sheet_fields, written_of, bytes_by, bytes_after, IgnoresUnused}
-use Rattle.writing.proofs.Accepted.{number_accepts, written_same, held}
+use Rattle.plan.proofs.Valid.{all_held}
+use Rattle.writing.proofs.Accepted.{number_accepts, written_same}
 
 -- The fields of an interval.
 abbrev focal_fields : Focal → List Field
@@ -129,7 +130,7 @@ module _ (p : Plan) (room : ℕ) where
       four n false e =
           ap₂
           (λ (ts : List Test) (len : ℕ). first_broken (test 3 (rule3 p.count) ∷ test 4 (rule4 (components_of (cleaned_plan p))) ∷ (ts ++ (test 15 (ltb room len) ∷ []))))
-          (rules_cleaned p n (held (components_of p) e)) (length_cleaned p n)
+          (rules_cleaned p n (all_held (components_of p) e)) (length_cleaned p n)
           ∙ rw (rule4_cleaned p n)
 
       three : (b : Bool) → rule3 p.count ≡ b → number_of (cleaned_plan p) room ≡ number_of p room
@@ -145,7 +146,7 @@ module _ (p : Plan) (room : ℕ) where
     same_length = length_cleaned p most
 
     same_fields : sheet_fields (cleaned_plan p) ≡ sheet_fields p
-    same_fields = sheet_cleaned p most (held (components_of p) (number_accepts p room e).four)
+    same_fields = sheet_cleaned p most (all_held (components_of p) (number_accepts p room e).four)
 
 -- What is written depends on the fields only where nothing is refused.
 bytes_same : (k : ℕ) (s : List ℕ) (fs gs : List Field) → (k ≡ 0 → fs ≡ gs) → bytes_by k s fs ≡ bytes_by k s gs

@@ -11,7 +11,7 @@ use Rattle.theory.specs.Codes.{entry_of}
 use Rattle.theory.specs.Limits.{entry_count}
 use Rattle.theory.specs.declared.Refusal.{Refusal}
 use Rattle.theory.specs.Refusals.{refusal_number}
-use Rattle.theory.proofs.Refusals.{above_zero}
+use Rattle.theory.proofs.Refusals.{numbered}
 use Rattle.plan.specs.declared.Plan.{Plan}
 use Rattle.plan.specs.Plan.{codes_in, zero_plan}
 use Rattle.plan.specs.Tests.{first_broken, Unbroken}
@@ -23,10 +23,6 @@ use Rattle.reading.proofs.BlocksRead.{blocks_read}
 use Rattle.reading.proofs.SheetLayout.{head_of_number, head_number, head_count, Headed, headed, layout_ends, plan_read, rules_read}
 use Rattle.reading.proofs.Decided.{refuses, reads_refused}
 use Rattle.reading.proofs.read_sheet.Goals as goal
-
--- No refusal has the number 0.
-numbered : (e : Refusal) → refusal_number e ≡ 0 → ⊥
-numbered e h = omega (arith, (above_zero e).1)
 
 module _ (s : List ℕ) where
   -- A refusal that a `?` hands on is what the sheet reads as, where it has the number of the sheet's tests.
