@@ -172,7 +172,7 @@ fn d_with(count: u16) -> Sheet
 {
     let d1 = single_speeds(8, &D1_SPEEDS);
     let d2 = single_speeds(8, &D2_SPEEDS);
-    let d3 = single_speeds(count, &D3_SPEEDS[..usize::from(count)]);
+    let d3 = single_speeds(count, &D3_SPEEDS[..count as usize]);
     sheet(&[d1, d2, d3], Join::Shared)
 }
 
