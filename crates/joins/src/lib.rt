@@ -12,7 +12,8 @@ ghost use Rattle.records.specs.Records.{records_of};
 ghost use Rattle.records.specs.Store.{holding, holding_from};
 ghost use Rattle.records.specs.Insertion.{Insertable};
 ghost use Rattle.joins.specs.Filling.{fill, length_of_filled};
-ghost use Rattle.joins.specs.Joins.{listing_of, RestFits, joined_as, join_length, number_of_join, length_of_join, row_of, filled_row, join_in, joined_store, Joinable, Hold};
+ghost use Rattle.joins.specs.Joins.{listing_of, RestFits, joined_as, join_length, number_of_join, length_of_join, row_of};
+ghost use Rattle.joins.specs.Joins.{filled_row, join_in, joined_store, Joinable, Hold};
 
 use records::Records;
 use theory::{Component, Focal, Join, LIST_BYTES, RECORD_BYTES, Refusal, TOP_SPEED};

@@ -7,7 +7,7 @@ use native.Mathlib.Numerals.{add-one}
 use native.Mathlib.Omega.{arith}
 use lib.Arith.{digits_lt, digits_div, digits_mod, mod-mul}
 use lib.ListN.{length, take, drop, get_or, set, take-append-drop, length-take, length-drop, length-append}
-use lib.Seq.{drop-cons, take-suc, append_snoc, set_at, length-take-le, take_all, take_at, get_or-drop, drop-drop, drop-append-add}
+use lib.Seq.{take-suc, append_snoc, set_at, length-take-le, take_all, take_at, get_or-drop, drop-drop, drop-append-add}
 use Rattle.numbers.specs.Numbers.{Bytes, big_endian, onto, number_at}
 
 -- ---- parts of a list

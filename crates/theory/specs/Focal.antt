@@ -5,7 +5,8 @@ use Rattle.theory.specs.Sums.{sum_by, count_from}
 use Rattle.theory.specs.declared.Component.{Component}
 use Rattle.theory.specs.declared.Focal.{Focal}
 
--- A focal element (source 002, definition 2.2; src/lib.rt has the struct): the interval from `low` to `high` with its weight. Past the end of a list there is `no_focal`.
+-- A focal element (source 002, definition 2.2; the struct is in src/lib.rt): the interval from `low` to `high` with its weight. Past the end
+-- of a list there is `no_focal`.
 abbrev pub focal : ℕ → ℕ → ℕ → Focal
 focal low high weight = record { low = low; high = high; weight = weight }
 

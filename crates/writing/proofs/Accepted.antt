@@ -10,8 +10,6 @@ use lib.Dec.{ltb}
 use lib.ListN.{length}
 use Rattle.std.specs.Prelude.{Ok, Err}
 use Rattle.theory.specs.Sums.{Every, none, more}
-use Rattle.theory.specs.Limits.{most_held}
-use Rattle.theory.specs.declared.Component.{Component}
 use Rattle.theory.specs.declared.Refusal.{Refusal}
 use Rattle.theory.specs.declared.Refusal.TheVariants.{SheetRoom}
 use Rattle.theory.specs.Refusals.{refusal_number, number_in, refused_when}
@@ -21,10 +19,9 @@ use Rattle.field.specs.declared.Field.{Field}
 use Rattle.plan.specs.declared.Plan.{Plan}
 use Rattle.plan.specs.Tests.{test, first_broken, Unbroken, First}
 use Rattle.plan.specs.Plan.{components_of}
-use Rattle.plan.specs.Rules.{rule3, bad_count, rule4, rules, AllHeld, Sized}
+use Rattle.plan.specs.Rules.{rule3, rule4, rules, Sized}
 use Rattle.writing.specs.Writing.{Written, number_of, length_of, sheet_fields, plan_tests, writer_tests, written, written_as, written_of, bytes_by, bytes_after}
 use Rattle.plan.proofs.Numbers.{no_number, none_broken, accepted_by, refused_by, first_found, first_none}
-use Rattle.plan.proofs.Tests.{every_failed, within}
 use Rattle.plan.proofs.Valid.{all_held, sized}
 
 pub number_written : (k len : ℕ) → (written k len).number ≡ k
