@@ -1,2 +1,2 @@
--- Laws of the rows' sheets and lists.
+-- Laws of the rows' sheets.
 pub mod Rows

@@ -1,19 +1,15 @@
--- Laws of the rows' sheets and lists: a component's places as they are filled, what the writer leaves, and how a list is compared.
--- Assumes nothing.
-use Rattle.std.proofs.Common.{◌≡◌, ◌↔◌, IsTrue, Bool, true, false, ℕ, zero, suc, ◌+◌, ◌<◌, ◌≤◌, Result, Ok, Err, List, [], ◌∷◌, ◌++◌, map, length, take, drop, replicate, slice_index_or, slice_set, refl, sym, ap, subst, ◌∙◌, add-one, zero-add, arith}
-use Rattle.std.specs.Bool.{MatchBool}
-use Rattle.std.specs.List.{AllWithin, HoldsAt, enumerate_from}
+-- Laws of the rows' sheets: a component's places as they are filled, and what the writer leaves. Assumes nothing.
+use Rattle.std.proofs.Common.{◌≡◌, ℕ, zero, suc, ◌+◌, ◌<◌, ◌≤◌, Result, Ok, Err, List, [], ◌∷◌, ◌++◌, map, length, take, drop, replicate, slice_index_or, slice_set, refl, ap, ◌∙◌, add-one, arith}
+use Rattle.std.specs.Array.{IsFromFnResult, IsFromFnResultFrom}
+use Rattle.std.specs.Fn.{Called, Mut}
+use Rattle.std.specs.List.{range_with_len}
 use Rattle.std.specs.Result.{result_unwrap_or}
-use Rattle.std.proofs.lemmas.List.{map_more, length-map, length-append, append_assoc, ext_get_or}
-use Rattle.std.proofs.lemmas.List.FromFn.{length-enumerate_from, get_or-enumerate_from}
+use Rattle.std.proofs.lemmas.List.{map_more, length-map, length-append, append_assoc}
+use Rattle.std.proofs.lemmas.List.FromFn.{fill_by_all}
 use Rattle.std.proofs.Math.Seq.{set-append_seam, drop-cons, length-take-le}
 use Rattle.theory.specs.declared.Refusal.{Refusal}
 use Rattle.theory.specs.Refusals.{refusal_number}
-use Rattle.theory.specs.Focal.{no_focal}
 use Rattle.theory.specs.Limits.{most_held}
-use Rattle.theory.specs.declared.Focal.{Focal}
-use Rattle.records.specs.Records.{record_at, records}
-use Rattle.records.proofs.RecordLaws.{length-records, records_at}
 use Rattle.plan.specs.declared.Plan.{Plan}
 use Rattle.writing.specs.Writing.{number_of, length_of, written, written_as, written_of}
 use Rattle.writing.proofs.Accepted.{number_accepts}
@@ -53,32 +49,17 @@ module _ (p : Plan) where
       go zero = refl
       go (suc k) = refl
 
--- A record of the bytes s is the wanted one, or not.
-module _ (s : List ℕ) where
-  abbrev pub Is : ℕ × Focal → Type 0
-  Is x = record_at s x.0 ≡ x.1
+-- Calls that leave the closure as it was, and give h of each index.
+abbrev pub Gives : {F B : Type 0} → Mut F (ℕ × Unit {0}) B → F → (ℕ → B) → Type 0
+Gives {F} {B} g f h = (i : ℕ) (y : B) (q : F) → Called g f (i, tt) y q → (q ≡ f) × (y ≡ h i)
 
-  abbrev pub Differs : ℕ × Focal → Type 0
-  Differs x = Is x → ⊥
+-- The array that `from_fn` makes of them.
+module _ {F B : Type 0} (g : Mut F (ℕ × Unit {0}) B) (f : F) (ys : List B) (h : ℕ → B) (d : B) where
+  made_at : (n i k j : ℕ) → Gives g f h → IsFromFnResultFrom g f ys i n → k < n → i + k ≡ j → slice_index_or ys j d ≡ h j
+  made_at zero i k j call r l e = absurd (omega arith)
+  made_at (suc n) i zero j call (q, y, at, c, r) l e = let z : i ≡ j = omega arith in rw (← z) (at.1 d ∙ (call i y q c).1)
+  made_at (suc n) i (suc k) j call (q, y, at, c, r) l e = made_at n (i + 1) k j call (rw (call i y q c).0 at r) (omega arith) (omega arith)
 
-  -- Record i, with its number and the wanted one.
-  at : (P : ℕ × Focal → Type 0) (fs : List Focal) (i : ℕ) → i < length fs → P (slice_index_or (enumerate_from 0 fs) i (0, no_focal)) → P (i, slice_index_or fs i no_focal)
-  at P fs i h = subst P (get_or-enumerate_from 0 fs i (0, no_focal) h ∙ rw zero-add)
-
-  -- The list is the wanted one where every record is.
-  pub same_records : {n : ℕ} {fs : List Focal} (r : Bool) → n ≡ length fs
-      → MatchBool r (AllWithin Is (enumerate_from 0 fs) 0 (length (enumerate_from 0 fs)))
-      ((k : ℕ) × (k < length (enumerate_from 0 fs)) × HoldsAt Differs (enumerate_from 0 fs) k)
-      → IsTrue r ↔ records n s ≡ fs
-  same_records {n} {fs} true e all = (
-    λ t. ext_get_or no_focal (records n s) fs (length-records n s ∙ e) (λ i h.
-        let l : i < length fs = omega (arith, length-records n s) in
-        records_at n i s (omega arith) ∙ at Is fs i l (all i (0, no_focal) (omega arith) (rw length-enumerate_from l))),
-    λ f. refl,
-  )
-  same_records {n} {fs} false e (k, h, differs) = (
-    λ t. cc,
-    λ f.
-        let l : k < length fs = rw length-enumerate_from at h in
-        absurd (at Differs fs k l (differs (0, no_focal)) (sym (records_at n k s (omega arith)) ∙ rw f)),
-  )
+pub made_by : {F B : Type 0} {g : Mut F (ℕ × Unit {0}) B} {f : F} {ys : List B} {n : ℕ} (h : ℕ → B) (d : B) → IsFromFnResult g f ys n → Gives g f h
+    → ys ≡ map h (range_with_len 0 n)
+made_by {g = g} {f = f} {ys = ys} {n = n} h d r call = fill_by_all h ys n d r.long (λ k l. made_at g f ys h d n 0 k k call r.each l (omega arith))

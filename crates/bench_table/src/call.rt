@@ -6,7 +6,7 @@ ghost use Rattle.bench_table.specs.declared.TheConstants.{LONGEST, SHARES_ROOM};
 
 use crate::{LONGEST, SHARES_ROOM};
 
-// A sheet: the first `length` bytes.
+// A sheet: the first `length` bytes. No heap: a fixed array, as long as the longest sheet.
 #[derive(Clone, Copy)]
 pub struct Sheet {
     pub bytes: [u8; LONGEST],

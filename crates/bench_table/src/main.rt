@@ -2,11 +2,12 @@
 // and for a set of demands: plans are written as sheets, and the answer of each call and its list, record by record, are compared with
 // the table's. Prints a line for each row, and how many rows disagree. What is printed is open in the contracts of the functions that
 // print, and so is the count of rows that disagree; every other function says what it answers.
+// Where a number is cast there is no `From`, and the check proves that nothing is lost.
 #![tactic(auto)]
 
-ghost use Rattle.std.specs.Prelude.{◌≡◌, ◌↔◌, IsTrue, ◌*◌, ◌/◌, ◌<◌, ◌≤◌, min, [], ◌∷◌, length, slice_set};
+ghost use Rattle.std.specs.Prelude.{◌≡◌, ◌↔◌, IsTrue, ◌*◌, ◌<◌, ◌≤◌, [], ◌∷◌, length, slice_set};
 ghost use Rattle.theory.specs.Focal.{focal};
-ghost use Rattle.theory.specs.Limits.{most_components, most_held, record_bytes, store_bytes};
+ghost use Rattle.theory.specs.Limits.{most_components, most_held, store_bytes};
 ghost use Rattle.records.specs.Records.{records_of};
 ghost use Rattle.bench_table.specs.Rows.{component_of, single_speeds, component_a, component_b, W0, W1, D1, D2, D3, join_code, chain, sheet_of};
 ghost use Rattle.bench_table.specs.Rows.{bytes_of, every_speed, speeds_to_ceiling, Asks, numbers_of, Answered, refused_as, intervals_of, accepted_of};
@@ -19,7 +20,7 @@ use plan::Plan;
 use records::Records;
 use std::io::{Print, Stdout};
 use std::{array, fmt, io};
-use theory::{Component, Focal, Join, MOST_HELD, MOST_INTERVALS, RECORD_BYTES, Refusal};
+use theory::{Component, Focal, Join, MOST_HELD, MOST_INTERVALS, Refusal};
 
 // The bytes of the longest sheet, and of the store.
 const LONGEST: usize = 224;
@@ -129,6 +130,7 @@ fn sheet(components: &[Component], join: Join) -> Sheet
         entries: [0, 1, code, 2, code, 3, code, 4, code, 5, code],
     };
     let mut bytes = [0u8; LONGEST];
+    // A refused plan has no bytes, as `sheet_of` says: a `Result` would only be unwrapped by each row.
     let length = writing::write_sheet(p, &mut bytes).unwrap_or(0);
     Sheet { bytes, length }
 }
@@ -172,7 +174,7 @@ fn d_with(count: u16) -> Sheet
 {
     let d1 = single_speeds(8, &D1_SPEEDS);
     let d2 = single_speeds(8, &D2_SPEEDS);
-    let d3 = single_speeds(count, &D3_SPEEDS[..count as usize]);
+    let d3 = single_speeds(count, &D3_SPEEDS[..usize::from(count)]);
     sheet(&[d1, d2, d3], Join::Shared)
 }
 
@@ -317,15 +319,11 @@ impl<'a> Call<'a> {
     }
 }
 
-// The numbers in a shares' buffer. A loop: a closure for `array::from_fn` would not be known to read this buffer.
+// The numbers in a shares' buffer, 8 bytes each.
 fn numbers_in(shares: &[u8; SHARES_ROOM]) -> [u64; SHARES_HELD]
     ensures { result ≡ numbers_of shares.now }
 {
-    let mut numbers = [0; SHARES_HELD];
-    for (i, n) in numbers.iter_mut().enumerate() {
-        *n = numbers::read_number(shares, 8 * i, 8);
-    }
-    numbers
+    array::from_fn(|i| numbers::read_number(shares, 8 * i, 8))
 }
 
 // What a call answers; for a set of demands also each number in the shares' buffer afterwards.
@@ -338,19 +336,19 @@ enum Answer {
 
 impl Answer {
     // The length of the list in the store.
-    fn intervals(&self) -> u64
+    fn intervals(&self) -> usize
         ensures { result ≡ intervals_of self.now }
     {
         match self {
             Answer::Bounds(a) => a.unwrap_or_default().intervals,
             Answer::Speed(a) => a.unwrap_or_default().answer.intervals,
-            Answer::Set(r, _) => r.unwrap_or_default().intervals as u64,
+            Answer::Set(r, _) => r.unwrap_or_default().intervals,
         }
     }
 }
 
 // What accepted calls answer.
-fn accepted(total: u64, belief: u64, plausibility: u64, pairs: u64, intervals: u64) -> Accepted
+fn accepted(total: u64, belief: u64, plausibility: u64, pairs: u64, intervals: usize) -> Accepted
     ensures { result ≡ accepted_of total belief plausibility pairs intervals }
 {
     Accepted {
@@ -362,7 +360,7 @@ fn accepted(total: u64, belief: u64, plausibility: u64, pairs: u64, intervals: u
     }
 }
 
-fn ok(total: u64, belief: u64, plausibility: u64, pairs: u64, intervals: u64) -> Answer
+fn ok(total: u64, belief: u64, plausibility: u64, pairs: u64, intervals: usize) -> Answer
     ensures { result ≡ Answer.Bounds (Ok (accepted_of total belief plausibility pairs intervals)) }
 {
     Answer::Bounds(Ok(accepted(total, belief, plausibility, pairs, intervals)))
@@ -389,15 +387,8 @@ fn ok_set(total: u64, pairs: u64, intervals: usize, numbers: [u64; SHARES_HELD])
 fn holds(list: Records, wanted: &[Focal]) -> bool
     ensures { IsTrue result ↔ records_of list.entry ≡ wanted.now }
 {
-    list.count == wanted.len() && wanted.iter().enumerate().all(|(i, f)| list.get(i) == *f)
-}
-
-// The list in a store. No clause of evaluate's calls says that it lies within the store, so the count is at most what fits it.
-fn list_in(store: &[u8], count: u64) -> Records<'_>
-    ensures { (result.bytes ≡ store.entry) × (result.count ≡ min count (length store.now / record_bytes)) }
-{
-    let most = store.len() / RECORD_BYTES;
-    Records::new(store, count.min(most as u64) as usize)
+    let read = list.records.iter().map(records::focal_in);
+    list.records.len() == wanted.len() && read.zip(wanted).all(|(f, g)| f == *g)
 }
 
 // A row of the table: a call, what it has to answer, and the list that then stands in the store.
@@ -454,9 +445,9 @@ impl<'a> fmt::Display for Line<'a> {
                 }
             }
         }
-        if self.list.count <= 4 {
-            for i in 0..self.list.count {
-                let focal = self.list.get(i);
+        if self.list.records.len() <= 4 {
+            for r in self.list.records {
+                let focal = records::focal_in(r);
                 write!(f, " [{},{}] {}", focal.low, focal.high, focal.weight)?;
             }
         }
@@ -479,7 +470,7 @@ impl Table {
         let line = Line {
             asked: row.call.asked,
             answer,
-            list: list_in(&store, answer.intervals()),
+            list: Records::new(&store, answer.intervals()),
         };
         if answer == row.wanted && holds(line.list, row.list) {
             return println!(self.out; "{name}{line}: agrees");

@@ -1,4 +1,5 @@
 // The block of one component, read and written.
+// Where a number is cast there is no `From`, and the check proves that nothing is lost.
 #![tactic(auto)]
 
 ghost use Rattle.std.specs.Prelude.{◌≡◌, ◌≤◌, ◌*◌, length};
@@ -7,9 +8,12 @@ ghost use Rattle.theory.specs.Limits.{most_held};
 ghost use Rattle.block.specs.Block.{interval_bits, place_of, size_of, padding_of, interval_at, component_of};
 ghost use Rattle.block.specs.Block.{block_in, intervals_of, fields_of};
 
+mod extent;
+
+pub use extent::Extent;
 use field::Field;
 use reader::Reader;
-use theory::{Component, Focal, MOST_HELD};
+use theory::{Component, Focal, HeldComponent, MOST_HELD};
 
 // The widths of a block's fields: specs/Block.antt has them with document 01's words.
 const COUNT_BITS: usize = 4;
@@ -45,20 +49,29 @@ fn interval_place(i: usize) -> usize
     BLOCK_HEAD_BITS + INTERVAL_BITS * i
 }
 
-// The bytes of a block of k intervals.
-pub fn block_size(k: usize) -> usize
-    requires { k ≤ most_held }
-    ensures { result ≡ size_of k }
-{
-    (interval_place(k) + 7) / 8
-}
+impl Extent {
+    // That of a block of this component.
+    pub fn of(c: HeldComponent) -> Extent
+        ensures { result.count ≡ c.entry.component.now.count }
+    {
+        Extent {
+            count: c.component.count,
+        }
+    }
 
-// How many zero bits stand behind the last of k intervals, up to the byte: fewer than 8, which the compiler sees in this form.
-fn padding_bits(k: usize) -> usize
-    requires { k ≤ most_held }
-    ensures { result ≡ padding_of k }
-{
-    (8 - interval_place(k) % 8) % 8
+    // Its bytes.
+    pub fn size(self) -> usize
+        ensures { result ≡ size_of self.count }
+    {
+        (interval_place(self.count) + 7) / 8
+    }
+
+    // How many zero bits stand behind the last interval, up to the byte: fewer than 8, which the compiler sees in this form.
+    fn padding_bits(self) -> usize
+        ensures { result ≡ padding_of self.count }
+    {
+        (8 - interval_place(self.count) % 8) % 8
+    }
 }
 
 // The interval at bit `place`. Its bits are gathered once; the sizes of its fields are fixed entries of the table.
@@ -77,20 +90,20 @@ fn read_interval(part: &[u8], place: usize) -> Focal
     }
 }
 
-// The component of k intervals in the block at the front of part; T is total.
-fn read_component(part: &[u8], k: usize, total: u16) -> Component
-    requires { (k ≤ most_held) × (size_of k ≤ length part.now) }
-    ensures { result ≡ component_of part.now k total }
+// The component in the block at the front of part; T is total.
+fn read_component(part: &[u8], extent: Extent, total: u16) -> Component
+    requires { size_of extent.count ≤ length part.now }
+    ensures { result ≡ component_of part.now extent.count total }
 {
     let mut c = Component::default();
     // By place: an interval's three numbers lie in three arrays, as document 01 has them.
-    for i in 0..k {
+    for i in 0..extent.count {
         let f = read_interval(part, interval_place(i));
         c.lows[i] = f.low;
         c.highs[i] = f.high;
         c.weights[i] = f.weight as u16;
     }
-    c.count = k;
+    c.count = extent.count;
     c.total = total;
     c
 }
@@ -110,23 +123,25 @@ pub fn read_block(part: &[u8]) -> Option<Block>
     if !(1..=MOST_HELD).contains(&k) {
         return None;
     }
-    let size = block_size(k);
+    let extent = Extent { count: k };
+    let size = extent.size();
     if part.len() < size {
         return None;
     }
-    let padding = Reader::new(part, interval_place(k)).take(padding_bits(k));
+    let padding = Reader::new(part, interval_place(k)).take(extent.padding_bits());
     Some(Block {
         nonzero: 0 < zero || 0 < padding,
         size,
-        component: read_component(part, k, total),
+        component: read_component(part, extent, total),
     })
 }
 
 // The intervals of c, in a block at the front of dst.
-fn put_intervals(dst: &mut [u8], c: Component)
-    requires { (c.count ≤ most_held) × (place_of c.count ≤ 8 * length dst.old) }
-    ensures { dst.new ≡ put_all dst.old (place_of 0) (intervals_of c c.count) }
+fn put_intervals(dst: &mut [u8], c: HeldComponent)
+    requires { place_of c.component.now.count ≤ 8 * length dst.old }
+    ensures { dst.new ≡ put_all dst.old (place_of 0) (intervals_of c.entry.component.now c.entry.component.now.count) }
 {
+    let c = c.component;
     // By place, as they are read.
     for i in 0..c.count {
         let low = Field {
@@ -146,11 +161,11 @@ fn put_intervals(dst: &mut [u8], c: Component)
 }
 
 // The block of c, at the front of dst.
-pub fn write_block(dst: &mut [u8], c: Component)
-    requires { (c.count ≤ most_held) × (size_of c.count ≤ length dst.old) }
-    ensures { dst.new ≡ put_all dst.old 0 (fields_of c) }
+pub fn write_block(dst: &mut [u8], c: HeldComponent)
+    requires { size_of c.component.now.count ≤ length dst.old }
+    ensures { dst.new ≡ put_all dst.old 0 (fields_of c.entry.component.now) }
 {
-    let k = c.count;
+    let k = c.component.count;
     let count = Field {
         width: COUNT_BITS,
         value: k as u32,
@@ -161,9 +176,9 @@ pub fn write_block(dst: &mut [u8], c: Component)
     };
     let total = Field {
         width: TOTAL_BITS,
-        value: u32::from(c.total),
+        value: u32::from(c.component.total),
     };
     field::put_fields(dst, 0, &[count, zero, total]);
     put_intervals(dst, c);
-    field::put_field(dst, interval_place(k), padding_bits(k), 0);
+    field::put_field(dst, interval_place(k), Extent::of(c).padding_bits(), 0);
 }

@@ -49,7 +49,7 @@ fn skip_some(from: Stdin) -> bool {
     0 < read_some(from, &mut rest)
 }
 
-// Reads the input to its end, so that a writer of a pipe can finish.
+// Reads the input to its end, so that a writer of a pipe can finish. A `for` of so many turns: an input may have no end, and each loop has one.
 fn skip_rest(from: Stdin) {
     for _ in 0..u64::MAX {
         if !skip_some(from) {
@@ -65,18 +65,6 @@ struct Report<'a> {
     list: Records<'a>,
 }
 
-impl<'a> Report<'a> {
-    // No clause of `evaluate::bounds` says that the list lies within the store, so the count is at most what fits it.
-    fn new(answer: Result<Accepted, Refusal>, store: &'a [u8]) -> Report<'a> {
-        let most = store.len() / theory::RECORD_BYTES;
-        let count = answer.map_or(0, |a| a.intervals.min(most as u64)) as usize;
-        Report {
-            answer,
-            list: Records::new(store, count),
-        }
-    }
-}
-
 impl<'a> fmt::Display for Report<'a> {
     fn fmt<W: fmt::Write>(&self, f: &mut fmt::Formatter<W>) -> fmt::Result {
         let number = theory::number_in(self.answer);
@@ -87,8 +75,8 @@ impl<'a> fmt::Display for Report<'a> {
             " plausibility {} pairs {} intervals {}",
             a.plausibility, a.pairs, a.intervals
         )?;
-        for i in 0..self.list.count {
-            let focal = self.list.get(i);
+        for r in self.list.records {
+            let focal = records::focal_in(r);
             writeln!(f, "{} {} {}", focal.low, focal.high, focal.weight)?;
         }
         Ok(())
@@ -118,6 +106,10 @@ fn main(rt: HostRuntime) {
     let allowance = word(&input, 4);
     let mut store = [0u8; theory::STORE_BYTES];
     let answer = evaluate::bounds(&input[8..n], demand, allowance, &mut store);
-    let report = Report::new(answer, &store);
+    let count = answer.map_or(0, |a| a.intervals);
+    let report = Report {
+        answer,
+        list: Records::new(&store, count),
+    };
     warn(rt.stderr(), print!(out; "{report}"));
 }

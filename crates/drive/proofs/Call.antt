@@ -1,7 +1,7 @@
 -- The call for C hosts, by whether the answer buffer is too short: the statement of specs/Call.antt. Assumes nothing.
 use Prim.Native.Nat.{ℕ, ◌≤◌, ◌<◌}
 use mathlib.Core.Path.{◌≡◌, refl, ap, ◌∙◌}
-use mathlib.Core.List.{List, [], ◌∷◌, ◌++◌, append_assoc}
+use mathlib.Core.List.{List, [], ◌++◌, append_assoc}
 use native.Mathlib.Omega.{arith}
 use lib.ListN.{length, drop, length-append}
 use lib.Seq.{drop_at}
@@ -46,11 +46,6 @@ answers_read a fits rest {buffer} e =
 
 -- ---- an answer buffer that is too short
 
--- The part of the list buffer that is then lent is empty.
-pub nothing : (l : List ℕ) → length l ≡ 0 → l ≡ []
-nothing [] e = refl
-nothing (x ∷ l) e = absurd (omega arith)
-
 -- The number is that of the first test that is broken, of a call without a list buffer.
 pub short_call : {sheet list list_then buffer buffer_then : List ℕ} {number : ℕ} → ((k : ℕ) → 0 < k → First (call_tests sheet 0) k → number ≡ k)
     → list_then ≡ list → buffer_then ≡ buffer → TooShort sheet number list list_then buffer buffer_then
@@ -65,12 +60,12 @@ short_call is l b = record {
 
 module _ (sheet : List ℕ) (demand allowance : ℕ) (list buffer : List ℕ) where
   -- What the three definitions come to, by whether the answer buffer is too short.
-  pub too_short : length buffer < answer_bytes → (number_returned sheet demand allowance list buffer ≡ (answer sheet demand allowance 0).number)
+  too_short : length buffer < answer_bytes → (number_returned sheet demand allowance list buffer ≡ (answer sheet demand allowance 0).number)
       × (list_after sheet allowance list buffer ≡ list) × (answer_after sheet demand allowance list buffer ≡ buffer)
   unfolding number_returned list_after answer_after
   too_short h = rw (lt-ltb (length buffer) answer_bytes h, number_returned) (refl, refl, refl)
 
-  pub long_enough : answer_bytes ≤ length buffer → (number_returned sheet demand allowance list buffer ≡ (answer sheet demand allowance (length list)).number)
+  long_enough : answer_bytes ≤ length buffer → (number_returned sheet demand allowance list buffer ≡ (answer sheet demand allowance (length list)).number)
       × (list_after sheet allowance list buffer ≡ store_after sheet allowance list)
       × (answer_after sheet demand allowance list buffer ≡ encode_answer (answer sheet demand allowance (length list)) ++ drop answer_bytes buffer)
   unfolding number_returned list_after answer_after

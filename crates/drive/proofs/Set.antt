@@ -22,13 +22,13 @@ length_set_answer r = simp (length-append, length-big_endian)
 
 module _ (sheet demands : List ℕ) (allowance : ℕ) (list shares buffer : List ℕ) where
   -- What the four definitions come to, by whether the answer buffer is too short.
-  pub too_short : length buffer < set_answer_bytes → (set_number sheet demands allowance list shares buffer ≡ (set_answer sheet (demands_in demands) allowance 0 0).number)
+  too_short : length buffer < set_answer_bytes → (set_number sheet demands allowance list shares buffer ≡ (set_answer sheet (demands_in demands) allowance 0 0).number)
       × (set_list_after sheet demands allowance list shares buffer ≡ list) × (set_shares_after sheet demands allowance list shares buffer ≡ shares)
       × (set_answer_after sheet demands allowance list shares buffer ≡ buffer)
   unfolding set_number set_list_after set_shares_after set_answer_after
   too_short h = rw (lt-ltb (length buffer) set_answer_bytes h, set_number) (refl, refl, refl, refl)
 
-  pub long_enough : set_answer_bytes ≤ length buffer
+  long_enough : set_answer_bytes ≤ length buffer
       → (set_number sheet demands allowance list shares buffer ≡ (set_answer sheet (demands_in demands) allowance (length list) (length shares)).number)
       × (set_list_after sheet demands allowance list shares buffer ≡ set_store_after sheet (demands_in demands) allowance list (length shares))
       × (set_shares_after sheet demands allowance list shares buffer ≡ shares_after sheet (demands_in demands) allowance (length list) shares)

@@ -25,12 +25,12 @@ length_speed_answer p = simp (length-append, length-big_endian) (omega (arith, l
 
 module _ (sheet : List ℕ) (target allowance : ℕ) (list buffer : List ℕ) where
   -- What the three definitions come to, by whether the answer buffer is too short.
-  pub too_short : length buffer < speed_answer_bytes → (speed_number sheet target allowance list buffer ≡ (speed_answer sheet target allowance 0).answer.number)
+  too_short : length buffer < speed_answer_bytes → (speed_number sheet target allowance list buffer ≡ (speed_answer sheet target allowance 0).answer.number)
       × (speed_list_after sheet target allowance list buffer ≡ list) × (speed_answer_after sheet target allowance list buffer ≡ buffer)
   unfolding speed_number speed_list_after speed_answer_after
   too_short h = rw (lt-ltb (length buffer) speed_answer_bytes h, speed_number) (refl, refl, refl)
 
-  pub long_enough : speed_answer_bytes ≤ length buffer → (speed_number sheet target allowance list buffer ≡ (speed_answer sheet target allowance (length list)).answer.number)
+  long_enough : speed_answer_bytes ≤ length buffer → (speed_number sheet target allowance list buffer ≡ (speed_answer sheet target allowance (length list)).answer.number)
       × (speed_list_after sheet target allowance list buffer ≡ speed_store_after sheet target allowance list)
       × (speed_answer_after sheet target allowance list buffer ≡ encode_speed_answer (speed_answer sheet target allowance (length list)) ++ drop speed_answer_bytes buffer)
   unfolding speed_number speed_list_after speed_answer_after

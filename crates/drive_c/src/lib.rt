@@ -1,5 +1,6 @@
-// What makers link: the calls, the writer and the reader of crate drive under their C names, and nothing else: a crate is a library or what C
-// links, and an archive has the C names of its own crate only. The header host/drive.h is the manual.
+// What makers link: the calls of crate drive and the writer and the reader of crate sheets under their C names, and nothing else: a crate is a
+// library or what C links, and an archive has the C names of its own crate only. C gets numbers, so here what is answered becomes one. The
+// header host/drive.h is the manual.
 #![tactic(auto)]
 
 ghost use Rattle.std.specs.Prelude.{◌≡◌};
@@ -21,7 +22,7 @@ pub extern "C" fn drive_bounds(
     ensures list_after { list.new ≡ list_after sheet.now allowance list.old answer.old }
     ensures answer_after { answer.new ≡ answer_after sheet.now demand allowance list.old answer.old }
 {
-    drive::drive_bounds(sheet, demand, allowance, list, answer)
+    theory::number_in(drive::drive_bounds(sheet, demand, allowance, list, answer))
 }
 
 // Returns the number. The answer and its speed go to the front of `answer`, the drive's list to the front of `list`.
@@ -37,7 +38,7 @@ pub extern "C" fn drive_speed(
     ensures list_after { list.new ≡ speed_list_after sheet.now target allowance list.old answer.old }
     ensures answer_after { answer.new ≡ speed_answer_after sheet.now target allowance list.old answer.old }
 {
-    drive::drive_speed(sheet, target, allowance, list, answer)
+    theory::number_in(drive::drive_speed(sheet, target, allowance, list, answer))
 }
 
 // Returns the number. The shares at each demand go to the front of `shares`, the other answers to the front of `answer`, the drive's list to
@@ -56,7 +57,7 @@ pub extern "C" fn drive_set(
     ensures shares_after { shares.new ≡ set_shares_after sheet.now demands.now allowance list.old shares.old answer.old }
     ensures answer_after { answer.new ≡ set_answer_after sheet.now demands.now allowance list.old shares.old answer.old }
 {
-    drive::drive_set(sheet, demands, allowance, list, shares, answer)
+    theory::number_in(drive::drive_set(sheet, demands, allowance, list, shares, answer))
 }
 
 // Returns the number. The sheet of the plan goes to the front of `sheet`, its length to the front of `answer`.
@@ -66,7 +67,7 @@ pub extern "C" fn drive_write_sheet(plan: &[u8], sheet: &mut [u8], answer: &mut 
     ensures sheet_after { sheet.new ≡ sheet_after plan.now sheet.old answer.old }
     ensures answer_after { answer.new ≡ length_after plan.now sheet.old answer.old }
 {
-    drive::drive_write_sheet(plan, sheet, answer)
+    theory::number_in(sheets::write_from_bytes(plan, sheet, answer))
 }
 
 // Returns the number. The plan of the sheet goes to the front of `plan`.
@@ -75,5 +76,5 @@ pub extern "C" fn drive_read_sheet(sheet: &[u8], plan: &mut [u8]) -> u32
     ensures value { result ≡ read_number sheet.now plan.old }
     ensures plan_after { plan.new ≡ plan_after sheet.now plan.old }
 {
-    drive::drive_read_sheet(sheet, plan)
+    theory::number_in(sheets::read_to_bytes(sheet, plan))
 }

@@ -5,10 +5,10 @@ use mathlib.Core.List.{List, ◌++◌}
 use native.Mathlib.Omega.{arith}
 use lib.ListN.{length, drop, length-append}
 use Rattle.std.specs.Prelude.{Ok}
-use Rattle.std.proofs.Common.{Bor}
 use Rattle.theory.specs.Limits.{record_bytes}
 use Rattle.theory.specs.Sums.{for_each}
 use Rattle.theory.specs.Masses.{total}
+use Rattle.theory.specs.declared.Focal.{Focal}
 use Rattle.theory.specs.Structure.{Tree}
 use Rattle.theory.specs.Evaluation.{Evaluation}
 use Rattle.theory.specs.Speed.{speed_for}
@@ -16,8 +16,7 @@ use Rattle.theory.proofs.Every.{every_map}
 use Rattle.theory.proofs.Collect.{order_collect, belief-collect, plausibility-collect}
 use Rattle.theory.proofs.Totals.{total_positive}
 use Rattle.plan.specs.Tests.{Test, first_broken}
-use Rattle.records.specs.declared.view.Records.{Records}
-use Rattle.records.specs.Records.{records_of}
+use Rattle.records.specs.Records.{records}
 use Rattle.records.proofs.RecordLaws.{length-encode}
 use Rattle.records.proofs.Store.{settled_list}
 use Rattle.queries.specs.declared.Shares.{Shares}
@@ -52,21 +51,21 @@ module _ {s : List ℕ} {allowance : ℕ} {store : List ℕ} {own : List Test} {
   length_is : x.intervals ≡ length (sheet_list s)
   length_is = ap (λ (r : SheetRun). r.intervals) a.answer_is_run
 
-  pub inside : record_bytes * x.intervals ≤ length after
+  inside : record_bytes * x.intervals ≤ length after
   inside = rw (length_is, a.stored) (simp length-append (omega (arith, length-encode (sheet_list s))))
 
   -- It is read from the store.
-  module _ (l : Records) {b : Bor (List ℕ)} (e : (l.bytes ≡ b) × (l.count ≡ x.intervals)) (h : b.now ≡ after) where
-    pub list_is : records_of l ≡ sheet_list s
+  module _ {l : List Focal} (e : record_bytes * x.intervals ≤ length after → l ≡ records x.intervals after) where
+    pub list_is : l ≡ sheet_list s
     list_is =
         let fits = drive_storable (valid a) in
-        rw (e.0, e.1, h, length_is, a.stored) (settled_list (needed (plan_of s)) store fits.0 fits.1)
+        rw (e inside, length_is, a.stored) (settled_list (needed (plan_of s)) store fits.0 fits.1)
 
-    pub summable : Summable (records_of l)
+    pub summable : Summable l
     summable = rw list_is (drive_storable (valid a)).1
 
     -- The answer, with the shares of the list.
-    pub answer_asked : (d : ℕ) {y : Shares} → y ≡ shares_of d (records_of l) → {z : Accepted} → z ≡ accepted_from x y
+    pub answer_asked : (d : ℕ) {y : Shares} → y ≡ shares_of d l → {z : Accepted} → z ≡ accepted_from x y
         → answered_as (Ok z) ≡ answer_of (end_of s allowance store own) (structure s) (components s) d
     answer_asked d f g =
         let r = a.answer_is_run in
@@ -81,7 +80,7 @@ module _ {s : List ℕ} {allowance : ℕ} {store : List ℕ} {own : List Test} {
         ∙ ap (λ (v : Evaluation Tree). answer_of v (structure s) (components s) d) (sym a.ends)
 
     -- The speed for a target, and the answer with the shares at it.
-    pub speed_asked : (target : ℕ) {v : ℕ} → v ≡ speed_for target x.total (records_of l) → {y : Shares} → y ≡ shares_of v (records_of l)
+    pub speed_asked : (target : ℕ) {v : ℕ} → v ≡ speed_for target x.total l → {y : Shares} → y ≡ shares_of v l
         → {z : Accepted} → z ≡ accepted_from x y → speed_as (Ok (record { answer = z; speed = v })) ≡ speed_answer_of (end_of s allowance store own) (structure s) (components s) target
     speed_asked target {v} e f {z} g =
         let speed_is : v ≡ speed_by (end_of s allowance store own) target (total (components s)) (sheet_list s) =
@@ -89,7 +88,7 @@ module _ {s : List ℕ} {allowance : ℕ} {store : List ℕ} {own : List Test} {
         (λ i. record { answer = answer_asked v f g i; speed = v })
         ∙ ap (λ (w : ℕ). record { answer = answer_of (end_of s allowance store own) (structure s) (components s) w; speed = w }) speed_is
 
-    pub shares_asked : (demands shares : List ℕ) → encode_set demands (records_of l) ++ drop (shares_bytes * length demands) shares
+    pub shares_asked : (demands shares : List ℕ) → encode_set demands l ++ drop (shares_bytes * length demands) shares
         ≡ shares_by (end_of s allowance store own) demands (sheet_outcomes s) shares
     shares_asked demands shares =
         rw (list_is, a.ends) (λ i.
@@ -98,12 +97,12 @@ module _ {s : List ℕ} {allowance : ℕ} {store : List ℕ} {own : List Test} {
 
 -- A list is searched for a speed with a target of 1 to 1,000 and a total above 0.
 pub searchable : {s : List ℕ} {target allowance : ℕ} {store : List ℕ} {x : AcceptedRun} {after : List ℕ}
-    → (a : AcceptedCall s allowance store (target_tests target) (run_as (Ok x)) after) (l : Records) {b : Bor (List ℕ)}
-    → (l.bytes ≡ b) × (l.count ≡ x.intervals) → b.now ≡ after → Searchable (records_of l) target x.total
-searchable {s} a l e h =
+    → (a : AcceptedCall s allowance store (target_tests target) (run_as (Ok x)) after) {l : List Focal}
+    → (record_bytes * x.intervals ≤ length after → l ≡ records x.intervals after) → Searchable l target x.total
+searchable {s} a e =
     let inside = target_inside a.own_unbroken in
     record {
-      summable = summable a l e h;
-      ordered = rw (list_is a l e h) (order_collect (sheet_outcomes s));
+      summable = summable a e;
+      ordered = rw (list_is a e) (order_collect (sheet_outcomes s));
       asked = λ k. record { least = inside.0; most = inside.1; total_positive = rw (total_is a) (total_positive (every_map (λ c t. t.0) (valid a).totals)) };
     }

@@ -1,4 +1,5 @@
 // The calls on a sheet: the tests and the run, which all calls share, and what each asks of the list.
+// A call's parameters stand one by one, as C passes them.
 #![tactic(auto)]
 
 ghost use Rattle.std.specs.Prelude.{◌≡◌, false, length, IfOk};
@@ -25,7 +26,7 @@ pub struct Accepted {
     pub belief: u64,
     pub plausibility: u64,
     pub pairs: u64,
-    pub intervals: u64,
+    pub intervals: usize,
 }
 
 // What an accepted call for a speed answers: the speed, and the answers of an ordinary call with that speed as its demand.
@@ -59,11 +60,10 @@ fn total_of(p: Plan) -> u64
     requires { Valid p }
     ensures { result ≡ total (components_of p) }
 {
-    let mut product: u64 = 1;
-    for c in p.used_components() {
-        product *= u64::from(c.total);
-    }
-    product
+    p.used_components()
+        .iter()
+        .map(|c| u64::from(c.total))
+        .product()
 }
 
 // Tests and run of every call. `own` is what the call's own tests answer, which come behind 1 to 12 and before 13 and 14.
@@ -97,7 +97,7 @@ fn with_shares(r: AcceptedRun, s: Shares) -> Accepted
         belief: s.belief,
         plausibility: s.plausibility,
         pairs: r.pairs,
-        intervals: r.intervals as u64,
+        intervals: r.intervals,
     }
 }
 

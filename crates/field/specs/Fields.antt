@@ -17,7 +17,7 @@ FieldInside = BitsInside 32
 abbrev pub WindowInside : List ℕ → ℕ → ℕ → Type 0
 WindowInside = BitsInside 57
 
--- A field: a number and its width in bits.
+-- The field of w bits with the number v.
 abbrev pub bits : ℕ → ℕ → Field
 bits w v = record { width = w; value = v }
 

@@ -1,4 +1,5 @@
 // Fields of bits in a slice of bytes, most significant bit first. 8 is the width of a byte; powers of two come from crate powers.
+// Where a number is cast there is no `From`, and the check proves that nothing is lost.
 #![tactic(auto)]
 
 ghost use Rattle.std.specs.Prelude.{◌≡◌, ◌*◌, ◌%◌, ◌^◌, ◌≤◌, ◌<◌, length};
@@ -11,6 +12,8 @@ pub struct Field {
     pub width: usize,
     pub value: u32,
 }
+
+// Buffer, place and width are parameters here and below, as those of `s[i..j]`: a struct of them would say no more.
 
 // The window of width bits at bit at: those bits behind the ones before them in their first byte, out of at most eight bytes.
 pub fn window(src: &[u8], at: usize, width: usize) -> u64

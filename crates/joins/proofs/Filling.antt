@@ -1,7 +1,7 @@
 -- A list built in a buffer by one insertion after the other, and stopped before a 257th interval. Assumes nothing.
 use mathlib.Core.Path.{◌≡◌, refl, sym, ap, ◌∙◌}
 use mathlib.Core.Logic.{⊎_elim}
-use mathlib.Core.List.{List, [], ◌∷◌, ◌++◌}
+use mathlib.Core.List.{List, [], ◌∷◌}
 use Prim.Native.Nat.{ℕ, ◌+◌, ◌^◌, ◌≤◌, ◌<◌}
 use native.Mathlib.Omega.{arith}
 use lib.ListN.{length}
@@ -11,19 +11,15 @@ use Rattle.std.specs.Prelude.{Option, Some, None}
 use Rattle.theory.specs.Sums.{Every}
 use Rattle.theory.specs.Focal.{weights}
 use Rattle.theory.specs.declared.Focal.{Focal}
-use Rattle.theory.specs.Order.{InOrder, inserted}
+use Rattle.theory.specs.Order.{inserted}
 use Rattle.theory.specs.Limits.{most_intervals}
-use Rattle.theory.proofs.Sums.{sum_append}
-use Rattle.theory.proofs.Every.{every_split}
-use Rattle.theory.proofs.Collect.{weights_insert, order_insert}
+use Rattle.theory.proofs.Collect.{weights_insert}
 use Rattle.theory.proofs.Lists.{length_insert, insert_all}
-use Rattle.records.specs.declared.Insertion.{Insertion}
 use Rattle.records.specs.Records.{records, Under, speed_limit}
 use Rattle.records.specs.Store.{holding}
-use Rattle.records.specs.Insertion.{insertion_of, insert_or_stay, Insertable}
-use Rattle.records.proofs.Store.{holding_over}
+use Rattle.records.specs.Insertion.{insertion_of, insert_or_stay}
 use Rattle.joins.specs.Filling.{Filled, fill, length_of_filled}
-use Rattle.joins.proofs.Holding.{some_fits, none_over, Held, view, insertable, held_step, held_over, held_stop, insert_under}
+use Rattle.joins.proofs.Holding.{Held, held_step, held_fits, held_over, held_stop}
 
 -- ---- a fill goes on, or it stops
 
@@ -41,48 +37,12 @@ module _ (l : List Focal) (p : Focal) (ps : List Focal) where
 
 -- ---- what a filled list has of the list that it began with
 
-pub record Grown (l ps : List Focal) (f : Filled) : Type 0 where
-  pub order : InOrder l → InOrder f.list
-  pub under : Every (Under speed_limit) l → Every (Under speed_limit) ps → Every (Under speed_limit) f.list
-  pub sum : weights f.list ≤ weights l + weights ps
-  pub longer : length l ≤ length f.list
+pub record Grown (l : List Focal) (f : Filled) : Type 0 where
   pub room : length l ≤ most_intervals → length f.list ≤ most_intervals
-  pub count : f.count ≤ most_intervals → f.count ≡ length f.list
 
-every_head : {P : Focal → Type 0} {f : Focal} {fs : List Focal} → Every P (f ∷ fs) → P f
-every_head (Every.more p r) = p
-
-every_tail : {P : Focal → Type 0} {f : Focal} {fs : List Focal} → Every P (f ∷ fs) → Every P fs
-every_tail (Every.more p r) = r
-
-pub grown : (l ps : List Focal) → Grown l ps (fill l ps)
-grown l [] = record { order = λ a. a; under = λ u v. u; sum = omega arith; longer = omega arith; room = λ h. h; count = λ h. refl }
-grown l (p ∷ ps) =
-    by_room l p ps (Grown l (p ∷ ps))
-    (λ h.
-    let k : Grown (inserted p l) ps (fill (inserted p l) ps) = grown (inserted p l) ps in
-    record {
-      order = λ a. k.order (order_insert p a);
-      under = λ u v. k.under (insert_under p (every_head v) u) (every_tail v);
-      sum = omega (arith, k.sum, weights_insert p l);
-      longer = omega (arith, k.longer, length_insert p l);
-      room = λ q. k.room h;
-      count = k.count;
-    })
-    (λ h. record { order = λ a. a; under = λ u v. u; sum = omega arith; longer = omega arith; room = λ q. q; count = λ q. omega arith })
-
--- ---- lists that go in one after the other
-
-fill_on : (l xs ys : List Focal) → (fill l xs).count ≤ most_intervals → fill l (xs ++ ys) ≡ fill (fill l xs).list ys
-fill_on l [] ys h = refl
-fill_on l (p ∷ ps) ys h =
-    ⊎_elim (λ k. rw k.0 (fill_on (inserted p l) ps ys (rw k.0 at h)))
-    (λ k. let z : length (inserted p l) ≤ most_intervals = rw k.0 at h in absurd (omega arith)) (leb_tells (length (inserted p l)) most_intervals)
-
-fill_off : (l xs ys : List Focal) → length l ≤ most_intervals → most_intervals < (fill l xs).count → fill l (xs ++ ys) ≡ fill l xs
-fill_off l [] ys r h = absurd (omega arith)
-fill_off l (p ∷ ps) ys r h =
-    ⊎_elim (λ k. rw k.0 (fill_off (inserted p l) ps ys k.1 (rw k.0 at h))) (λ k. rw k.0) (leb_tells (length (inserted p l)) most_intervals)
+pub grown : (l ps : List Focal) → Grown l (fill l ps)
+grown l [] = record { room = λ h. h }
+grown l (p ∷ ps) = by_room l p ps (Grown l) (λ h. record { room = λ q. (grown (inserted p l) ps).room h }) (λ h. record { room = λ q. q })
 
 -- ---- a list on the way: `acc` stands in the buffer, `rest` is still to go in, and `g` is what that gives
 
@@ -104,77 +64,33 @@ filling_done {out₀ = out₀} {m = m} f = (
   f.held.bytes ∙ ap (λ (x : Filled). holding out₀ x.list) f.goal,
 )
 
+every_more : {P : Focal → Type 0} {f : Focal} {fs : List Focal} → Every P (f ∷ fs) → P f × Every P fs
+every_more (Every.more p r) = (p, r)
+
 -- One interval goes in.
 module _ {out₀ out : List ℕ} {m : ℕ} {p : Focal} {rest : List Focal} {g : Filled} (f : Filling out₀ out m (p ∷ rest) g) where
   pub fits_now : weights f.acc + p.weight < 2 ^ 64
   fits_now = omega (arith, f.fits)
 
-  under_now : Under speed_limit p
-  under_now = every_head f.under
-
-  module _ {x : Focal} (q : x ≡ p) {e : List ℕ} (bytes : e ≡ holding out (insert_or_stay x (records m out))) where
-    pub filling_step : {r : Insertion} → Some r ≡ insertion_of x (records m out) → Filling out₀ e r.count rest g
-    filling_step v =
-        let h = held_step f.held q under_now fits_now bytes v in
+  module _ {e : List ℕ} (bytes : e ≡ holding out (insert_or_stay p (records m out))) where
+    pub filling_step : {n c : ℕ} → Some n ≡ insertion_of p (records m out) → c ≡ length (insert_or_stay p (records m out)) → Filling out₀ e c rest g
+    filling_step v c =
+        let h = held_step f.held p bytes c (every_more f.under).0 fits_now (held_fits f.held p v) in
         record {
           acc = inserted p f.acc;
           held = h;
-          under = every_tail f.under;
+          under = (every_more f.under).1;
           fits = omega (arith, f.fits, weights_insert p f.acc);
           goal = sym (fill_goes f.acc p rest h.room) ∙ f.goal;
         }
 
-    pub filling_stop : None ≡ insertion_of x (records m out) → Done out₀ e None g
+    pub filling_stop : None ≡ insertion_of p (records m out) → Done out₀ e None g
     filling_stop v =
-        let k : most_intervals < length (inserted p f.acc) = held_over f.held q v in
+        let k : most_intervals < length (inserted p f.acc) = held_over f.held p v in
         let ge : record { list = f.acc; count = length (inserted p f.acc) } ≡ g = sym (fill_stops f.acc p rest k) ∙ f.goal in (
           rw (lt-leb (length (inserted p f.acc)) most_intervals k) at (ap length_of_filled ge),
-          held_stop f.held q under_now fits_now bytes v ∙ ap (λ (x : Filled). holding out₀ x.list) ge,
+          held_stop f.held p bytes v ∙ ap (λ (x : Filled). holding out₀ x.list) ge,
         )
-
--- A row of intervals goes in.
-module _ {out₀ out : List ℕ} {m : ℕ} (xs rest : List Focal) {g : Filled} (f : Filling out₀ out m (xs ++ rest) g) where
-  pub row_insertable : Insertable out m (weights xs)
-  row_insertable = insertable f.held (weights xs) (omega (arith, f.fits, sum_append (λ (x : Focal). x.weight) xs rest))
-
-  row_under : Every (Under speed_limit) xs
-  row_under = (every_split xs f.under).0
-
-  module _ {e : List ℕ} (bytes : e ≡ holding out (fill (records m out) xs).list) where
-    row_bytes : e ≡ holding out₀ (fill f.acc xs).list
-    row_bytes =
-        bytes ∙ (λ k. holding (f.held.bytes k) (fill (view f.held k) xs).list) ∙ holding_over out₀ f.acc (fill f.acc xs).list (grown f.acc xs).longer
-
-    -- What the row answers is that of the list so far.
-    row_answer : {o : Option ℕ} → o ≡ length_of_filled (fill (records m out) xs) → o ≡ length_of_filled (fill f.acc xs)
-    row_answer v = v ∙ ap (λ (l : List Focal). length_of_filled (fill l xs)) (view f.held)
-
-    pub filling_row : {n : ℕ} → Some n ≡ length_of_filled (fill (records m out) xs) → Filling out₀ e n rest g
-    filling_row v =
-        let k : Grown f.acc xs (fill f.acc xs) = grown f.acc xs in
-        let c = some_fits (fill f.acc xs).count _ (row_answer v) in
-        let w : weights (xs ++ rest) ≡ weights xs + weights rest = sum_append (λ (x : Focal). x.weight) xs rest in
-        record {
-          acc = (fill f.acc xs).list;
-          held = record {
-            bytes = row_bytes;
-            count = c.1 ∙ k.count c.0;
-            room = k.room f.held.room;
-            len = f.held.len;
-            order = k.order f.held.order;
-            under = k.under f.held.under row_under;
-            sum = omega (arith, f.fits, k.sum);
-          };
-          under = (every_split xs f.under).1;
-          fits = omega (arith, f.fits, k.sum);
-          goal = sym (fill_on f.acc xs rest c.0) ∙ f.goal;
-        }
-
-    pub filling_row_stop : None ≡ length_of_filled (fill (records m out) xs) → Done out₀ e None g
-    filling_row_stop v =
-        let k : most_intervals < (fill f.acc xs).count = none_over (fill f.acc xs).count _ (row_answer v) in
-        let ge : fill f.acc xs ≡ g = sym (fill_off f.acc xs rest f.held.room k) ∙ f.goal in
-        (row_answer v ∙ ap length_of_filled ge, row_bytes ∙ ap (λ (x : Filled). holding out₀ x.list) ge)
 
 -- ---- what is filled where the whole list has at most most_intervals intervals, and where it has more
 

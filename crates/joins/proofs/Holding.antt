@@ -1,10 +1,8 @@
 -- A list that a buffer holds, and one insertion into it. Assumes nothing.
-use mathlib.Core.Path.{◌≡◌, sym, ap, ◌∙◌}
-use mathlib.Core.Bool.{cond}
+use mathlib.Core.Path.{◌≡◌, refl, ap, ◌∙◌}
 use mathlib.Core.List.{List, []}
 use Prim.Native.Nat.{ℕ, ◌+◌, ◌-◌, ◌*◌, ◌^◌, ◌≤◌, ◌<◌}
 use native.Mathlib.Omega.{arith}
-use lib.Dec.{leb}
 use lib.ListN.{length, drop}
 use Rattle.std.proofs.lemmas.Bool.Decides.{nat_tests}
 use Rattle.std.specs.Prelude.{Option, Some, None, IsSome}
@@ -16,28 +14,15 @@ use Rattle.theory.specs.declared.Join.{Join}
 use Rattle.theory.specs.Order.{InOrder, inserted}
 use Rattle.theory.specs.Limits.{most_intervals, list_bytes}
 use Rattle.theory.proofs.Collect.{weights_insert, every_insert, order_insert}
-use Rattle.theory.proofs.Every.{every_image}
 use Rattle.theory.proofs.Lists.{length_insert}
 use Rattle.theory.proofs.Monotone.{joined_within}
 use Rattle.theory.proofs.Steps.{every_pairs}
-use Rattle.numbers.specs.Numbers.{Bytes}
-use Rattle.records.specs.declared.Insertion.{Insertion}
-use Rattle.records.specs.Records.{records, Under, speed_limit}
+use Rattle.records.specs.Records.{encode, records, Under, speed_limit}
 use Rattle.records.specs.Store.{holding}
 use Rattle.records.specs.Insertion.{insertion_of, insert_or_stay, Insertable}
-use Rattle.records.proofs.RecordLaws.{length-records, holds, records-encode, records_under}
+use Rattle.records.proofs.RecordLaws.{records-encode}
 use Rattle.records.proofs.Store.{length-holding, holding_over}
 use Rattle.records.proofs.Inserting.{stay_fits, stay_full}
-use Rattle.joins.specs.Joins.{row_of}
-
--- ---- a length of at most 256, and what is answered where there is one
-
-module _ {A : Type 0} (n : ℕ) (x : A) where
-  pub some_fits : {y : A} → Some y ≡ cond (leb n most_intervals) (Some x) None → (n ≤ most_intervals) × (y ≡ x)
-  some_fits e = grind (arith, nat_tests)
-
-  pub none_over : None ≡ cond (leb n most_intervals) (Some x) None → most_intervals < n
-  none_over e = grind (arith, nat_tests)
 
 -- ---- records hold what is joined of two records
 
@@ -51,13 +36,7 @@ module _ (op : Join) where
   pub pairs_under : {fs gs : List Focal} → Every (Under speed_limit) fs → Every (Under speed_limit) gs → Every (Under speed_limit) (pairs op fs gs)
   pairs_under = every_pairs ◌*◌ op joined_under
 
-  pub joined_row_under : (f : Focal) → Under speed_limit f → {gs : List Focal} → Every (Under speed_limit) gs → Every (Under speed_limit) (row_of op f gs)
-  joined_row_under f u = every_image (joined_focal op f) (λ g. joined_under f g u)
-
 -- ---- one interval more
-
-pub insert_under : (f : Focal) {l : List Focal} → Under speed_limit f → Every (Under speed_limit) l → Every (Under speed_limit) (inserted f l)
-insert_under f h u = every_insert (Under speed_limit) (λ g k p q. q) f h u
 
 -- The first m records of `out` are the list l, and the other bytes are those of out₀.
 pub record Held (out₀ out : List ℕ) (m : ℕ) (l : List Focal) : Type 0 where
@@ -69,23 +48,10 @@ pub record Held (out₀ out : List ℕ) (m : ℕ) (l : List Focal) : Type 0 wher
   pub under : Every (Under speed_limit) l
   pub sum : weights l < 2 ^ 64
 
-pub held : (out : List ℕ) (m w : ℕ) → Bytes out → Insertable out m w → Held out out m (records m out)
-held out m w b i =
-    let e : length (records m out) ≡ m = length-records m out in
-    record {
-      bytes = holds m out b (omega (arith, i.count, i.room));
-      count = sym e;
-      room = omega (arith, i.count);
-      len = i.room;
-      order = i.ordered;
-      under = records_under m out b;
-      sum = omega (arith, i.fits);
-    }
-
 -- At first the list is empty.
-pub held_none : (out : List ℕ) → Bytes out → list_bytes ≤ length out → Held out out 0 []
-unfolding records
-held_none out b h = held out 0 0 b (record { count = omega arith; room = h; ordered = InOrder.none; fits = omega arith })
+pub held_none : (out : List ℕ) → list_bytes ≤ length out → Held out out 0 []
+unfolding encode
+held_none out h = record { bytes = refl; count = refl; room = omega arith; len = h; order = InOrder.none; under = Every.none; sum = omega arith }
 
 module _ {out₀ out : List ℕ} {m : ℕ} {l : List Focal} (h : Held out₀ out m l) where
   pub view : records m out ≡ l
@@ -99,33 +65,34 @@ module _ {out₀ out : List ℕ} {m : ℕ} {l : List Focal} (h : Held out₀ out
       record { count = omega (arith, h.room, h.count); room = omega (arith, length_now, h.len); ordered = rw view h.order; fits = rw view f }
 
   -- One insertion of p: what it answers,
-  module _ {p g : Focal} (q : g ≡ p) where
-    answer : {o : Option Insertion} → o ≡ insertion_of g (records m out) → o ≡ insertion_of p l
-    answer v = v ∙ (λ k. insertion_of (q k) (view k))
+  module _ (p : Focal) where
+    pub held_room : {o : Option ℕ} → length (inserted p l) ≤ most_intervals → o ≡ insertion_of p (records m out) → IsSome o
+    held_room k v = rw (rw view at v) (grind (arith, nat_tests))
 
-    pub held_room : {o : Option Insertion} → length (inserted p l) ≤ most_intervals → o ≡ insertion_of g (records m out) → IsSome o
-    held_room {o} k v = rw (answer v) (grind (arith, nat_tests))
+    pub held_fits : {n : ℕ} → Some n ≡ insertion_of p (records m out) → length (inserted p l) ≤ most_intervals
+    held_fits {n} v = let a : Some n ≡ insertion_of p l = rw view at v in grind (arith, nat_tests)
 
-    pub held_over : None ≡ insertion_of g (records m out) → most_intervals < length (inserted p l)
-    held_over v = none_over (length (inserted p l)) _ (answer v)
+    pub held_over : None ≡ insertion_of p (records m out) → most_intervals < length (inserted p l)
+    held_over v = let a : None ≡ insertion_of p l = rw view at v in grind (arith, nat_tests)
 
     -- and what it leaves there.
-    module _ (u : Under speed_limit p) (f : weights l + p.weight < 2 ^ 64) {e : List ℕ} (bytes : e ≡ holding out (insert_or_stay g (records m out))) where
-      after : e ≡ holding (holding out₀ l) (insert_or_stay p l)
-      after = bytes ∙ (λ k. holding (h.bytes k) (insert_or_stay (q k) (view k)))
+    module _ {e : List ℕ} (bytes : e ≡ holding out (insert_or_stay p (records m out))) where
+      after : {t : List Focal} → insert_or_stay p l ≡ t → length l ≤ length t → e ≡ holding out₀ t
+      after {t} s k = bytes ∙ (λ i. holding (h.bytes i) ((ap (insert_or_stay p) view ∙ s) i)) ∙ holding_over out₀ l t k
 
-      pub held_step : {r : Insertion} → Some r ≡ insertion_of g (records m out) → Held out₀ e r.count (inserted p l)
-      held_step {r} v =
-          let k = some_fits (length (inserted p l)) _ (answer v) in
+      pub held_step : {c : ℕ} → c ≡ length (insert_or_stay p (records m out)) → Under speed_limit p → weights l + p.weight < 2 ^ 64
+          → length (inserted p l) ≤ most_intervals → Held out₀ e c (inserted p l)
+      held_step c u f k =
+          let s : insert_or_stay p l ≡ inserted p l = stay_fits p l k in
           record {
-            bytes = after ∙ ap (holding (holding out₀ l)) (stay_fits p l k.0) ∙ holding_over out₀ l (inserted p l) (length_insert p l).0;
-            count = ap (λ (x : Insertion). x.count) k.1;
-            room = k.0;
+            bytes = after s (length_insert p l).0;
+            count = c ∙ ap length (ap (insert_or_stay p) view ∙ s);
+            room = k;
             len = h.len;
             order = order_insert p h.order;
-            under = insert_under p u h.under;
+            under = every_insert (Under speed_limit) (λ f g v w. w) p u h.under;
             sum = omega (arith, weights_insert p l);
           }
 
-      pub held_stop : None ≡ insertion_of g (records m out) → e ≡ holding out₀ l
-      held_stop v = after ∙ ap (holding (holding out₀ l)) (stay_full p l (held_over v)) ∙ holding_over out₀ l l (omega arith)
+      pub held_stop : None ≡ insertion_of p (records m out) → e ≡ holding out₀ l
+      held_stop v = after (stay_full p l (held_over v)) (omega arith)

@@ -1,5 +1,5 @@
 -- "Joins": the join of two lists that stand in a store, its list in the free rest. Assumes nothing.
-use Rattle.std.specs.Prelude.{ℕ, ◌+◌, ◌*◌, ◌^◌, ◌≤◌, ◌<◌, cond, Result, Ok, Err, List, [], map, leb, ltb, length}
+use Rattle.std.specs.Prelude.{ℕ, ◌+◌, ◌*◌, ◌^◌, ◌≤◌, ◌<◌, cond, Result, Ok, Err, List, [], leb, ltb, length}
 use Rattle.theory.specs.Sums.{Every}
 use Rattle.theory.specs.Focal.{listed, weights}
 use Rattle.theory.specs.declared.Focal.{Focal}
@@ -8,19 +8,14 @@ use Rattle.theory.specs.declared.Component.{Component}
 use Rattle.theory.specs.declared.Join.{Join}
 use Rattle.theory.specs.declared.Refusal.{Refusal}
 use Rattle.theory.specs.declared.Refusal.TheVariants.{ListLength}
-use Rattle.theory.specs.Joins.{joined_focal, pairs}
+use Rattle.theory.specs.Joins.{pairs}
 use Rattle.theory.specs.Order.{collect}
 use Rattle.theory.specs.Lists.{join_lists}
 use Rattle.theory.specs.Limits.{most_intervals, record_bytes, list_bytes}
-use Rattle.records.specs.Records.{records, Under, speed_limit}
-use Rattle.records.specs.Store.{list_in, holding_from}
-use Rattle.joins.specs.declared.Listing.{Listing}
-use Rattle.joins.specs.declared.Span.{Span}
-use Rattle.joins.specs.Filling.{Filled, fill}
-
--- What putting a component's listed intervals answers: the list's length, and the rest.
-abbrev pub listing_of : Component → Listing
-listing_of c = record { count = length (collect (listed c)); rest = rest c }
+use Rattle.records.specs.Records.{Under, speed_limit}
+use Rattle.records.specs.declared.Span.{Span}
+use Rattle.records.specs.Store.{list_of_span, holding_from}
+use Rattle.joins.specs.Filling.{fill}
 
 -- Records hold what a component lists, and the rest besides.
 abbrev pub RestFits : Component → Type 0
@@ -42,18 +37,6 @@ number_of_join l = cond (ltb most_intervals (length l)) 14 0
 -- The length that a join answers whose list is l.
 abbrev pub length_of_join : List Focal → ℕ
 length_of_join l = cond (ltb most_intervals (length l)) 0 (length l)
-
--- A row of pairs: one interval joined with each of a list.
-abbrev pub row_of : Join → Focal → List Focal → List Focal
-row_of op f gs = map (joined_focal op f) gs
-
--- The row with a list goes into the list of the first n records of out.
-abbrev pub filled_row : Join → Focal → List Focal → List ℕ → ℕ → Filled
-filled_row op f gs out n = fill (records n out) (row_of op f gs)
-
--- A list of a store.
-abbrev pub list_of_span : List ℕ → Span → List Focal
-list_of_span s span = list_in s span.start span.count
 
 -- The pairs of two lists of a store.
 abbrev pub pairs_in : Join → List ℕ → Span → Span → List Focal

@@ -1,15 +1,19 @@
 // Numbers in bytes, each most significant byte first.
+// Where a number is cast there is no `From`, and the check proves that nothing is lost.
 #![tactic(auto)]
 
-ghost use Rattle.std.specs.Prelude.{◌≡◌, ◌++◌, ◌+◌, ◌≤◌, length, take, drop};
+ghost use Rattle.std.specs.Prelude.{◌≡◌, ◌++◌, ◌+◌, ◌*◌, ◌≤◌, length, take, drop};
+ghost use Rattle.theory.specs.Sums.{for_each};
 ghost use Rattle.numbers.specs.Numbers.{big_endian, number_at};
 
-// The number in n bytes from `at` on, most significant first.
+// The number in n bytes from `at` on, most significant first. Buffer, place and width are parameters here and below, as those of `s[i..j]`: a
+// struct of them would say no more.
 pub fn read_number(s: &[u8], at: usize, n: usize) -> u64
     requires n_in_bounds { at + n ≤ length s.now }
     requires n_bound { n ≤ 8 }
     ensures { result ≡ number_at s.now at n }
 {
+    // Not `from_be_bytes`: a power by which a field is read comes from the table, as document 02 asks.
     let base = powers::pow2(8);
     let mut acc: u64 = 0;
     for x in &s[at..at + n] {
@@ -18,15 +22,25 @@ pub fn read_number(s: &[u8], at: usize, n: usize) -> u64
     acc
 }
 
-// Writes the last n bytes of v from `at` on, most significant first: records and answers; fields of a sheet are written by crate field.
+// Writes the last n bytes of v from `at` on, most significant first: records, answers, and plans as bytes; fields of a sheet are written by crate field.
 pub fn write_number(s: &mut [u8], at: usize, n: usize, v: u64)
     requires { at + n ≤ length s.old }
     ensures { s.new ≡ take at s.old ++ (big_endian n v ++ drop (at + n) s.old) }
 {
     let mut x = v;
-    // The place counts from `at`, so that the compiler makes one store of it at a constant n.
+    // Not `to_be_bytes`: n is any number. The place counts from `at`, so that the compiler makes one store of it at a constant n.
     for i in (0..n).rev() {
         s[at + i] = (x % 256) as u8;
         x /= 256;
+    }
+}
+
+// Writes the last n bytes of each of a row of numbers from `at` on, most significant first.
+pub fn write_numbers(s: &mut [u8], at: usize, n: usize, vs: &[u64])
+    requires { at + n * length vs.now ≤ length s.old }
+    ensures { s.new ≡ take at s.old ++ (for_each vs.now (big_endian n) ++ drop (at + n * length vs.now) s.old) }
+{
+    for (i, v) in vs.iter().enumerate() {
+        write_number(s, at + n * i, n, *v);
     }
 }

@@ -14,7 +14,6 @@ use Rattle.std.proofs.lemmas.List.Recursion.{is_count_by}
 use Rattle.theory.specs.Sums.{count_of, count_from}
 use Rattle.theory.specs.Limits.{most_components, entry_count}
 use Rattle.theory.specs.Codes.{entry_of, series_code, shared_code, spare_code}
-use Rattle.theory.specs.Lists.{no_component}
 use Rattle.theory.specs.declared.Entry.{Entry}
 use Rattle.theory.specs.declared.Entry.TheVariants.{Component as component, Join as join}
 use Rattle.theory.specs.declared.Join.TheVariants.{Series, Shared, Spare}
@@ -112,9 +111,6 @@ module _ {A : Type 0} (f : ℕ → A) (n : ℕ) where
 module _ (p : Plan) where
   pub components_count : length (components_of p) ≡ p.count
   components_count = length_below (component_at p) p.count
-
-  pub component_is : (j : ℕ) → j < p.count → get_or (components_of p) j no_component ≡ component_at p j
-  component_is = get_or_below (component_at p) p.count no_component
 
   pub codes_count : length (codes_of p) ≡ entry_count p.count
   codes_count = length_below (λ j. get_or p.entries j 0) (entry_count p.count)

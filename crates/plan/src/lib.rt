@@ -11,8 +11,8 @@ ghost use Rattle.plan.specs.Rules.{rule4, bad_alone, after, bad_interval, bad_in
 ghost use Rattle.plan.specs.Rules.{flaws_of, either_flaws, flaws_in, flaw_tests, structure_tests, Counted, AllHeld};
 
 use theory::{
-    Component, Entry, Focal, MOST_COMPONENTS, MOST_ENTRIES, MOST_HELD, MOST_TOTAL, Refusal,
-    TOP_SPEED,
+    Component, Entry, Focal, HeldComponent, MOST_COMPONENTS, MOST_ENTRIES, MOST_HELD, MOST_TOTAL,
+    Refusal, TOP_SPEED,
 };
 
 // The components of a drive and its structure: the first `count` components and the first 2 `count` - 1 entries are in use.
@@ -26,7 +26,7 @@ pub struct Plan {
 }
 
 impl Plan {
-    // A plan of zeros: what a refused sheet reads as.
+    // A plan of zeros: what a refused sheet reads as. Callers need it as an equation, which a derived `Default` does not promise.
     pub fn zeros() -> Plan
         ensures { result ≡ zero_plan }
     {
@@ -91,7 +91,7 @@ fn bad_alone(f: Focal) -> bool
     f.high < f.low || TOP_SPEED < f.high || f.weight == 0
 }
 
-// The interval g comes strictly after f, in ascending order of low, then of high.
+// The interval g comes strictly after f, in ascending order of low, then of high: a name for rule 7's words.
 fn is_after(f: Focal, g: Focal) -> bool
     ensures { result ≡ after f g }
 {
@@ -107,23 +107,21 @@ fn bad_interval(c: &Component, j: usize) -> bool
 }
 
 // Rule 7 of a component.
-fn bad_intervals(c: &Component) -> bool
-    requires { c.now.count ≤ most_held }
-    ensures { result ≡ bad_intervals c.now }
+fn bad_intervals(c: HeldComponent) -> bool
+    ensures { result ≡ bad_intervals c.entry.component.now }
 {
-    (0..c.count).any(|j| bad_interval(c, j))
+    (0..c.component.count).any(|j| bad_interval(c.component, j))
 }
 
 // Rule 8 of a component.
-fn bad_sum(c: &Component) -> bool
-    requires { c.now.count ≤ most_held }
-    ensures { result ≡ bad_sum c.now }
+fn bad_sum(c: HeldComponent) -> bool
+    ensures { result ≡ bad_sum c.entry.component.now }
 {
-    let sum: u64 = c.weights[..c.count]
+    let sum: u64 = c.component.weights[..c.component.count]
         .iter()
         .map(|weight| u64::from(*weight))
         .sum();
-    u64::from(c.total) < sum
+    u64::from(c.component.total) < sum
 }
 
 // Which of the rules 6, 7 and 8 are broken: a flag for each, since another component may break a rule with a smaller number.
@@ -136,12 +134,11 @@ pub struct Flaws {
 
 impl Flaws {
     // The flaws of a component.
-    pub fn of(c: &Component) -> Flaws
-        requires { c.now.count ≤ most_held }
-        ensures { result ≡ flaws_of c.now }
+    pub fn of(c: HeldComponent) -> Flaws
+        ensures { result ≡ flaws_of c.entry.component.now }
     {
         Flaws {
-            total: !(1..=MOST_TOTAL).contains(&usize::from(c.total)),
+            total: !(1..=MOST_TOTAL).contains(&usize::from(c.component.total)),
             intervals: bad_intervals(c),
             weights: bad_sum(c),
         }
@@ -164,8 +161,9 @@ impl Flaws {
         ensures { result ≡ flaws_in components.now }
     {
         let mut flaws = Flaws::default();
+        // No `fold`: it proves, with a proof twice as long.
         for c in components {
-            flaws = flaws.or(Flaws::of(c));
+            flaws = flaws.or(Flaws::of(HeldComponent::new(c)));
         }
         flaws
     }
@@ -196,7 +194,7 @@ fn bad_naming(codes: &[u16], i: usize) -> bool
     codes.iter().filter(|code| usize::from(**code) == i).count() != 1
 }
 
-// Rule 10.
+// Rule 10. Here and below n is a number with a clause: a type for it would be made and unmade at each call.
 fn bad_names(codes: &[u16], n: usize) -> bool
     requires { n ≤ most_components }
     ensures { result ≡ rule10 n (map entry_of codes.now) }

@@ -38,8 +38,8 @@ pub fn shares_at(list: Records, demand: u64) -> Shares
 {
     let mut belief: u64 = 0;
     let mut plausibility: u64 = 0;
-    for i in 0..list.count {
-        let f = list.get(i);
+    for r in list.records {
+        let f = records::focal_in(r);
         belief += counted(f.low, f.weight, demand);
         plausibility += counted(f.high, f.weight, demand);
     }
@@ -62,8 +62,8 @@ fn put_shares(out: &mut [u8], i: usize, shares: Shares)
     requires { shares_bytes * (i + 1) ≤ length out.old }
     ensures { out.new ≡ take (shares_bytes * i) out.old ++ (encode_shares shares ++ drop (shares_bytes * (i + 1)) out.old) }
 {
-    numbers::write_number(out, SHARES_BYTES * i, 8, shares.belief);
-    numbers::write_number(out, SHARES_BYTES * i + 8, 8, shares.plausibility);
+    let pair = [shares.belief, shares.plausibility];
+    numbers::write_numbers(out, SHARES_BYTES * i, 8, &pair);
 }
 
 // Writes the shares of a list at each demand, in the order asked. The list is walked once for each.
@@ -102,17 +102,16 @@ pub fn speed_for(list: Records, target: u32, total: u64) -> u64
     ensures { result ≡ speed_for target total (records_of list.entry) }
 {
     let mut belief: u64 = 0;
-    let mut i = 0;
+    let mut left = list.records.iter();
     // Document 02 names this form: a loop that yields the speed by `break`.
     loop {
-        if i == list.count {
+        let Some(r) = left.next() else {
             break 0;
-        }
-        let f = list.get(i);
+        };
+        let f = records::focal_in(r);
         belief += f.weight;
         if target_met(belief, target, total) {
             break u64::from(f.low);
         }
-        i += 1;
     }
 }

@@ -1,4 +1,5 @@
 // A sheet read: its plan, or the refusal.
+// Where a number is cast there is no `From`, and the check proves that nothing is lost.
 #![tactic(auto)]
 
 ghost use Rattle.std.specs.Prelude.{◌≡◌, ◌+◌, ◌*◌, ◌≤◌, length, IfOk, Some};
@@ -12,7 +13,7 @@ use plan::{
     COMPONENT_COUNT_BITS, EDITION, EDITION_BITS, ENTRY_BITS, Flaws, HEAD_BYTES, LENGTH_BITS, Plan,
 };
 use reader::Reader;
-use theory::{Component, MOST_COMPONENTS, MOST_ENTRIES, Refusal};
+use theory::{Component, HeldComponent, MOST_COMPONENTS, MOST_ENTRIES, Refusal};
 
 // The blocks of a sheet, read in turn, where none is cut short: the components, in a row of six (no heap), whether a bit named zero is one
 // (number 5), which of the rules 6, 7 and 8 some component breaks, and the byte behind the last block.
@@ -53,7 +54,7 @@ fn read_blocks(sheet: &[u8], n: usize) -> Option<Blocks>
     for component in &mut components[..n] {
         let b = block::read_block(&sheet[end..])?;
         nonzero |= b.nonzero;
-        flaws = flaws.or(Flaws::of(&b.component));
+        flaws = flaws.or(Flaws::of(HeldComponent::new(&b.component)));
         end += b.size;
         *component = b.component;
     }

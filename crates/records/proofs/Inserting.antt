@@ -5,26 +5,26 @@ use mathlib.Core.List.{List, [], ◌∷◌, ◌++◌, append_assoc, append-nil}
 use Prim.Native.Nat.{ℕ, suc, ◌+◌, ◌*◌, ◌-◌, ◌≤◌, ◌<◌}
 use native.Mathlib.Omega.{arith}
 use lib.Dec.{ltb, compare_is_eq}
-use lib.ListN.{length, take, drop, length-append, length-drop, drop_of_length-le}
+use lib.ListN.{length, get_or, take, drop, length-append, length-drop, length-map, drop_of_length-le}
 use lib.Seq.{length-take-le, take_all, take_at, drop_at, take-add, drop-drop}
 use borrow.Rule.Slice.PartMut.{put_mid}
 use Rattle.std.proofs.lemmas.Slice.{take-put_mid_below}
 use borrow.Author.Tests.{le-leb, lt-leb, lt-ltb, ltb-true}
 use Rattle.std.proofs.lemmas.Bool.{and_parts}
-use Rattle.std.specs.Prelude.{Option, Some, None}
+use Rattle.std.specs.Prelude.{◌≢◌, Option, Some, None}
 use Rattle.std.specs.List.{copy_within}
 use Rattle.theory.specs.Focal.{weights, no_focal}
 use Rattle.theory.specs.declared.Focal.{Focal}
 use Rattle.theory.specs.Order.{order, inserted}
 use Rattle.theory.specs.Limits.{most_intervals}
 use Rattle.theory.proofs.Sums.{sum_next, sum_take}
-use Rattle.records.specs.declared.Insertion.{Insertion}
-use Rattle.records.specs.Records.{bytes_of, encode, record_at, records, keyed}
+use Rattle.records.specs.declared.view.Records.{Records}
+use Rattle.records.specs.Records.{bytes_of, encode, head_record, records, records_of, interval_at, key_of, keyed, speed_limit}
 use Rattle.records.specs.Store.{with_record, holding}
-use Rattle.records.specs.Insertion.{place, insertion_of, insert_or_stay}
+use Rattle.records.specs.Insertion.{place, insertion_of, insert_or_stay, Insertable}
 use Rattle.numbers.specs.Numbers.{Bytes}
-use Rattle.records.proofs.RecordLaws.{interval_at, length-encode, length-records, records_at, encode_append, holds, take-encode, drop-encode}
-use Rattle.records.proofs.Place.{place-weight, place_within, insert_met, insert_new}
+use Rattle.records.proofs.RecordLaws.{from_key, length-encode, length-records, encode_append, holds, record_is, take-encode, drop-encode}
+use Rattle.records.proofs.Place.{with_weight, place-weight, place_within, insert_met, insert_new}
 
 pub stay_fits : (f : Focal) (l : List Focal) → length (inserted f l) ≤ most_intervals → insert_or_stay f l ≡ inserted f l
 stay_fits f l h = rw (le-leb (length (inserted f l)) most_intervals h)
@@ -69,100 +69,113 @@ moved_on s u a m h e =
     (λ i. take a s ++ (part i ++ none i))
     ∙ rw (append-nil, take-add) (sym (append_assoc (take a s) (take 12 d) rest))
 
--- What an insertion of f into the n records of s answers and leaves.
-abbrev pub Inserted : ℕ → List ℕ → Focal → List ℕ → Option Insertion → Type 0
-Inserted n s f e answer = (answer ≡ insertion_of f (records n s)) × (e ≡ holding s (insert_or_stay f (records n s)))
+-- What an insertion of f into the n records of s answers, and what it leaves: the bytes, and the length.
+abbrev pub Inserted : ℕ → List ℕ → Focal → Option ℕ → List ℕ → ℕ → Type 0
+Inserted n s f answer e count =
+    let after : List Focal = insert_or_stay f (records n s) in
+    (answer ≡ insertion_of f (records n s)) × (e ≡ holding s after) × (count ≡ length after)
 
-module _ (n : ℕ) (s : List ℕ) (b : Bytes s) (fit : 12 * n ≤ length s) (key weight p : ℕ) (found : p ≡ place (keyed key 0) (records n s)) where
-  abbrev f : Focal
-  f = keyed key weight
+module _ {n : ℕ} {s : List ℕ} (f : Focal) (r : Insertable s n f.weight) (u : f.high < speed_limit)
+    (list : Records) (inside : 12 * n ≤ length s → records_of list ≡ records n s) (b : Bytes s)
+    {key p : ℕ} (ke : key ≡ key_of f) (found : p ≡ place (keyed key 0) (records_of list))
+  where
+    abbrev l : List Focal
+    l = records n s
 
-  abbrev l : List Focal
-  l = records n s
+    fit : 12 * n ≤ length s
+    fit = omega arith
 
-  is_placed : p ≡ place f l
-  is_placed = found ∙ place-weight (keyed key 0) weight l
+    read : records_of list ≡ l
+    read = inside fit
 
-  -- Whether record p is there, and is the same interval.
-  abbrev met : Bool
-  met = ltb p n && compare_is_eq (order (record_at s p) (keyed key 0))
+    size : length list.records.now ≡ n
+    size = sym (length-map list.records.now head_record) ∙ ap length read ∙ length-records n s
 
-  answer_is : (m : ℕ) → length (inserted f l) ≡ m → m ≤ most_intervals
-      → ◌≡◌ {A = Option Insertion} (Some (record { count = m; place = p })) (insertion_of f l)
-  answer_is m e h = rw (le-leb (length (inserted f l)) most_intervals (omega arith)) (λ i. Some (record { count = sym e i; place = is_placed i }))
+    key_back : keyed key 0 ≡ with_weight f 0
+    key_back = ap (λ k. keyed k 0) ke ∙ from_key (with_weight f 0) u
 
-  -- It is.
-  pub insert_at : n ≤ most_intervals → {t : Bool} → t ≡ met → t ≡ true
-      → Inserted n s f (with_record s p (keyed key (weight + (record_at s p).weight))) (Some (record { count = n; place = p }))
-  insert_at m te y =
-      let (there, e) = and_parts (ltb p n) (compare_is_eq (order (record_at s p) (keyed key 0))) (sym te ∙ y) in
-      let h : p < n = ltb-true p n there in
-      let size : length l ≡ n = length-records n s in
-      let this : interval_at l p ≡ record_at s p = records_at n p s h in
-      let new : Focal = keyed key (weight + (record_at s p).weight) in
-      let list_is : inserted f l ≡ take p l ++ (new ∷ drop (suc p) l) =
-      insert_met f l (rw (size, ← is_placed) h) (rw (← is_placed, this) e) ∙ rw (← is_placed, this) in
-      let as_long : length (inserted f l) ≡ n =
-      ap length list_is ∙ length-append (take p l) (new ∷ drop (suc p) l)
-      ∙ rw (length-take-le p l (rw size (omega arith)), length-drop, size) (omega arith) in
-      let end : 12 * p + 12 ≡ 12 * suc p = omega arith in (
-        answer_is n as_long m,
-        (λ k. cut_front n s b fit p (omega arith) k ++ (bytes_of new ++ (ap (λ (m : ℕ). drop m s) end ∙ cut_back n s b fit (suc p) h) k))
-            ∙ spread (take p l) new (drop (suc p) l) (drop (12 * n) s)
-            ∙ (λ k. encode (sym list_is k) ++ drop (12 * sym as_long k) s)
-            ∙ ap (holding s) (sym (stay_fits f l (omega arith))),
-      )
+    is_placed : p ≡ place f l
+    is_placed = found ∙ (λ i. place (key_back i) (read i)) ∙ sym (place-weight f 0 l)
 
-  -- It is not, and so no record is.
-  module _ {t : Bool} (te : t ≡ met) (no : t ≡ false) where
-    absent : p < n → compare_is_eq (order (record_at s p) (keyed key 0)) ≡ false
-    absent h = sym (te ∙ rw (lt-ltb p n h)) ∙ no
+    -- Whether record p is there, and is the same interval.
+    abbrev met : Bool
+    met = ltb p (length list.records.now) && compare_is_eq (order (interval_at (records_of list) p) (keyed key 0))
 
-    list_is : inserted f l ≡ take p l ++ (f ∷ drop p l)
-    list_is =
-        rw is_placed
-        (insert_new f l (λ q. let h : p < n = omega (arith, length-records n s) in rw (← is_placed, records_at n p s h) (absent h)))
+    met_is : met ≡ (ltb p n && compare_is_eq (order (interval_at l p) f))
+    met_is = λ i. ltb p (size i) && compare_is_eq (order (interval_at (read i) p) (key_back i))
 
-    within : p ≤ n
-    within = omega (arith, place_within f l, length-records n s)
+    answer_is : (m : ℕ) → length (inserted f l) ≡ m → m ≤ most_intervals → (e : List ℕ) → e ≡ holding s (inserted f l) → Inserted n s f (Some p) e m
+    answer_is m e h t k =
+        let stay : insert_or_stay f l ≡ inserted f l = stay_fits f l (omega (arith, e)) in
+        (rw (le-leb (length (inserted f l)) most_intervals (omega arith)) (ap Some is_placed), k ∙ ap (holding s) (sym stay), sym (ap length stay ∙ e))
 
-    longer : length (inserted f l) ≡ n + 1
-    longer =
-        ap length list_is ∙ length-append (take p l) (f ∷ drop p l)
-        ∙ rw (length-take-le p l (rw length-records within), length-drop, length-records) (omega (arith, within))
+    -- It is. Then its weight is added.
+    module _ {t : Bool} (te : t ≡ met) (yes : t ≡ true) {old : Focal} (oe : old ≡ head_record (get_or list.records.now p [])) where
+      pub there : (p < n) × (compare_is_eq (order (interval_at l p) f) ≡ true)
+      there = let (q, e) = and_parts (ltb p n) (compare_is_eq (order (interval_at l p) f)) (sym met_is ∙ sym te ∙ yes) in (ltb-true p n q, e)
 
-    pub insert_in : 12 * n + 12 ≤ length s → n < most_intervals
-        → (u : List ℕ) → u ≡ copy_within (take (length s - 12 * p) (drop (12 * p) s)) 0 (12 * n - 12 * p) 12
-        → Inserted n s f (with_record (put_mid (12 * p) (length s - 12 * p) s u) p f) (Some (record { count = n + 1; place = p }))
-    insert_in room m u e =
-        let h : p ≤ n = within in
-        let t : List ℕ = put_mid (12 * p) (length s - 12 * p) s u in
-        let z : List ℕ = take (12 * n - 12 * p) (drop (12 * p) s) ++ drop (12 * (n + 1)) s in
-        let end : 12 * p + 12 + (12 * n - 12 * p) ≡ 12 * (n + 1) = omega arith in
-        let whole : t ≡ take (12 * p + 12) s ++ z = moved_on s u (12 * p) (12 * n - 12 * p) (omega arith) e ∙ rw end in
-        let front : take (12 * p) t ≡ take (12 * p) s = take-put_mid_below (12 * p) (length s - 12 * p) s u (12 * p) (omega arith) (omega arith) in
-        let rest : drop (12 * p + 12) t ≡ z =
-        ap (drop (12 * p + 12)) whole ∙ drop_at (take (12 * p + 12) s) z (12 * p + 12) (length-take-le (12 * p + 12) s (omega arith)) in (
-          answer_is (n + 1) longer (omega arith),
-          (λ k. (front ∙ cut_front n s b fit p h) k ++ (bytes_of f ++ rest k))
-              ∙ (λ k. encode (take p l) ++ (bytes_of f ++ (cut_mid n s b fit p h k ++ drop (12 * (n + 1)) s)))
-              ∙ spread (take p l) f (drop p l) (drop (12 * (n + 1)) s)
-              ∙ (λ k. encode (sym list_is k) ++ drop (12 * sym longer k) s)
-              ∙ ap (holding s) (sym (stay_fits f l (omega (arith, longer)))),
-        )
+      this : interval_at l p ≡ old
+      this = ap (λ (k : List Focal). interval_at k p) (sym read) ∙ record_is list.records.now p [] (omega (arith, size, there.0)) ∙ sym oe
 
-    pub insert_over : n ≡ most_intervals → Inserted n s f s None
-    insert_over m =
-        let full : most_intervals < length (inserted f l) = omega (arith, longer) in
-        (rw (lt-leb (length (inserted f l)) most_intervals full), holds n s b fit ∙ ap (holding s) (sym (stay_full f l full)))
+      pub weight_fits : old.weight ≤ weights l
+      weight_fits =
+          omega (
+            arith,
+            ap (λ (f : Focal). f.weight) this,
+            sum_next (λ (f : Focal). f.weight) l p no_focal (rw length-records (there.0)),
+            sum_take (λ (f : Focal). f.weight) (p + 1) l,
+          )
 
--- A record's weight is at most the sum.
-pub weight_le_sum : (n : ℕ) (s : List ℕ) (p : ℕ) → p < n → (record_at s p).weight ≤ weights (records n s)
-weight_le_sum n s p h =
-    let l : List Focal = records n s in
-    omega (
-      arith,
-      ap (λ (f : Focal). f.weight) (records_at n p s h),
-      sum_next (λ (f : Focal). f.weight) l p no_focal (rw length-records h),
-      sum_take (λ (f : Focal). f.weight) (p + 1) l,
-    )
+      pub insert_at : let sum = with_weight f (f.weight + old.weight) in Inserted n s f (Some p) (with_record s p sum) n
+      insert_at =
+          let h : p < n = there.0 in
+          let sum : Focal = with_weight f (f.weight + old.weight) in
+          let list_is : inserted f l ≡ take p l ++ (sum ∷ drop (suc p) l) =
+          insert_met f l (rw (length-records, ← is_placed) h) (rw (← is_placed) (there.1)) ∙ rw (← is_placed, this) in
+          let as_long : length (inserted f l) ≡ n =
+          ap length list_is ∙ length-append (take p l) (sum ∷ drop (suc p) l)
+          ∙ rw (length-take-le p l (rw length-records (omega arith)), length-drop, length-records) (omega arith) in
+          let end : 12 * p + 12 ≡ 12 * suc p = omega arith in
+          answer_is n as_long r.count (with_record s p sum)
+          ((λ k. cut_front n s b fit p (omega arith) k ++ (bytes_of sum ++ (ap (λ (m : ℕ). drop m s) end ∙ cut_back n s b fit (suc p) h) k))
+          ∙ spread (take p l) sum (drop (suc p) l) (drop (12 * n) s)
+          ∙ (λ k. encode (sym list_is k) ++ drop (12 * sym as_long k) s))
+
+    -- It is not, and so no record is.
+    module _ {t : Bool} (te : t ≡ met) (no : t ≡ false) where
+      absent : p < n → compare_is_eq (order (interval_at l p) f) ≡ false
+      absent h = sym (rw (lt-ltb p n h) at (te ∙ met_is)) ∙ no
+
+      list_is : inserted f l ≡ take p l ++ (f ∷ drop p l)
+      list_is = rw is_placed (insert_new f l (λ q. rw (← is_placed) (absent (omega (arith, is_placed, length-records n s)))))
+
+      within : p ≤ n
+      within = omega (arith, is_placed, place_within f l, length-records n s)
+
+      longer : length (inserted f l) ≡ n + 1
+      longer =
+          ap length list_is ∙ length-append (take p l) (f ∷ drop p l)
+          ∙ rw (length-take-le p l (rw length-records within), length-drop, length-records) (omega (arith, within))
+
+      pub insert_in : n ≢ most_intervals → (t : List ℕ) → t ≡ copy_within (take (length s - 12 * p) (drop (12 * p) s)) 0 (12 * n - 12 * p) 12
+          → Inserted n s f (Some p) (with_record (put_mid (12 * p) (length s - 12 * p) s t) p f) (n + 1)
+      insert_in m part e =
+          let h : p ≤ n = within in
+          let t : List ℕ = put_mid (12 * p) (length s - 12 * p) s part in
+          let z : List ℕ = take (12 * n - 12 * p) (drop (12 * p) s) ++ drop (12 * (n + 1)) s in
+          let end : 12 * p + 12 + (12 * n - 12 * p) ≡ 12 * (n + 1) = omega arith in
+          let whole : t ≡ take (12 * p + 12) s ++ z = moved_on s part (12 * p) (12 * n - 12 * p) (omega arith) e ∙ rw end in
+          let front : take (12 * p) t ≡ take (12 * p) s = take-put_mid_below (12 * p) (length s - 12 * p) s part (12 * p) (omega arith) (omega arith) in
+          let rest : drop (12 * p + 12) t ≡ z =
+          ap (drop (12 * p + 12)) whole ∙ drop_at (take (12 * p + 12) s) z (12 * p + 12) (length-take-le (12 * p + 12) s (omega arith)) in
+          answer_is (n + 1) longer (omega arith) (with_record t p f)
+          ((λ k. (front ∙ cut_front n s b fit p h) k ++ (bytes_of f ++ rest k))
+          ∙ (λ k. encode (take p l) ++ (bytes_of f ++ (cut_mid n s b fit p h k ++ drop (12 * (n + 1)) s)))
+          ∙ spread (take p l) f (drop p l) (drop (12 * (n + 1)) s)
+          ∙ (λ k. encode (sym list_is k) ++ drop (12 * sym longer k) s))
+
+      pub insert_over : n ≡ most_intervals → Inserted n s f None s n
+      insert_over m =
+          let full : most_intervals < length (inserted f l) = omega (arith, longer) in
+          let stay : insert_or_stay f l ≡ l = stay_full f l full in
+          (rw (lt-leb (length (inserted f l)) most_intervals full), holds n s b fit ∙ ap (holding s) (sym stay), sym (ap length stay ∙ length-records n s))

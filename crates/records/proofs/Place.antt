@@ -3,14 +3,16 @@
 use mathlib.Core.Path.{◌≡◌, refl, sym, ap, ◌∙◌}
 use mathlib.Core.Bool.{Bool, true, false, cond}
 use mathlib.Core.Logic.{⊎_elim, inl, inr}
-use mathlib.Core.List.{List, [], ◌∷◌, ◌++◌}
-use Prim.Native.Nat.{ℕ, zero, suc, ◌+◌, ◌≤◌, ◌<◌, Ordering}
+use mathlib.Core.List.{List, [], ◌∷◌, ◌++◌, map}
+use Prim.Native.Nat.{ℕ, zero, suc, ◌+◌, ◌-◌, ◌≤◌, ◌<◌, Ordering}
+use Prim.Native.Nat.compare
 use native.Mathlib.Nat.{not-suc-le-zero, le_of_suc-le-suc, eq-or-lt_of_le}
 use native.Mathlib.Omega.{arith}
 use lib.Dec.{ltb, eqb, compare_is_eq}
-use lib.ListN.{length, take, drop, take-append-drop, drop_of_length-le}
-use lib.Seq.{drop-cons}
-use borrow.Author.Tests.{lt-ltb, le-ltb, eq-eqb, ne_eqb}
+use lib.ListN.{length, get_or, take, drop, length-map, length-drop, take-append-drop, drop_of_length-le}
+use lib.Seq.{drop-cons, length-take-le, get_or-take, get_or-drop}
+use borrow.Author.Tests.{ltb-true, ltb-false, lt-ltb, le-ltb, eq-eqb, ne_eqb}
+use Rattle.std.specs.List.Sorted.{IsPartitionedBy, IsPartitionPoint}
 use Rattle.theory.specs.Sums.{Every}
 use Rattle.theory.specs.Focal.{focal, no_focal}
 use Rattle.theory.specs.declared.Focal.{Focal}
@@ -19,10 +21,10 @@ use Rattle.theory.proofs.Order.{Placed, placed, before_trans, order_before}
 use Rattle.theory.proofs.Every.{index_of_every}
 use Rattle.theory.proofs.Lists.{insert_skip, insert_here, insert_same}
 use Rattle.numbers.specs.Numbers.{Bytes}
-use Rattle.records.specs.Records.{key_of, keyed, record_at, records_of, speed_limit}
+use Rattle.records.specs.Records.{head_record, key_of, keyed, records, records_of, interval_at, speed_limit}
 use Rattle.records.specs.declared.view.Records.{Records}
 use Rattle.records.specs.Insertion.{is_before, place}
-use Rattle.records.proofs.RecordLaws.{interval_at, length-records, records_at, record_under}
+use Rattle.records.proofs.RecordLaws.{head_under, length-records, record_is}
 
 -- ---- what the order of two intervals says
 
@@ -54,12 +56,12 @@ key_lt f g u v (inl h) = omega arith
 key_lt f g u v (inr h) = omega arith
 
 -- A record's key is tested against another key.
-pub key_tests : (s : List ℕ) (i key : ℕ) → Bytes s → let f = record_at s i in
+pub key_tests : (r : List ℕ) (key : ℕ) → Bytes r → let f = head_record r in
     (ltb key (key_of f) ≡ is_before (order f (keyed key 0))) × (eqb (key_of f) key ≡ compare_is_eq (order f (keyed key 0)))
-key_tests s i key b =
-    let f : Focal = record_at s i in
+key_tests r key b =
+    let f : Focal = head_record r in
     let g : Focal = keyed key 0 in
-    let u : f.high < speed_limit = (record_under s i b).1 in
+    let u : f.high < speed_limit = (head_under r b).1 in
     let v : g.high < speed_limit = omega arith in
     by_order (λ o. (ltb key (key_of f) ≡ is_before o) × (eqb (key_of f) key ≡ compare_is_eq o)) f g
     (λ h. (lt-ltb key (key_of f) (omega (arith, key_lt f g u v h)), ne_eqb (key_of f) key (λ e. omega (arith, key_lt f g u v h))))
@@ -104,37 +106,77 @@ place_stop f (g ∷ gs) h = go (is_before (order g f)) refl (place_stop f gs) h
     go true e r h = r (le_of_suc-le-suc h)
     go false e r h = e
 
--- A test of the interval at m bounds the place.
-place_below : (f : Focal) (l : List Focal) (m : ℕ) → m < length l → is_before (order (interval_at l m) f) ≡ false → place f l ≤ m
-place_below f [] m h e = absurd (not-suc-le-zero h)
-place_below f (g ∷ gs) zero h e = rw e (omega arith)
-place_below f (g ∷ gs) (suc m) h e = go (is_before (order g f)) (place_below f gs m (le_of_suc-le-suc h) e)
+-- In a list in order exactly those in front of the place come before.
+in_front : (f : Focal) {l : List Focal} → InOrder l → (m : ℕ) → m < length l → is_before (order (interval_at l m) f) ≡ ltb m (place f l)
+in_front f InOrder.none m h = absurd (not-suc-le-zero h)
+in_front f (InOrder.more {f = g} {fs = gs} b r) zero h = go (is_before (order g f))
   where
-    go : (b : Bool) → place f gs ≤ m → cond b (suc (place f gs)) 0 ≤ suc m
-    go true h = omega arith
-    go false h = omega arith
+    go : (x : Bool) → x ≡ ltb 0 (cond x (suc (place f gs)) 0)
+    go true = sym (lt-ltb 0 (suc (place f gs)) (omega arith))
+    go false = refl
+in_front f (InOrder.more {f = g} {fs = gs} b r) (suc m) h =
+    go (is_before (order g f)) (is_before (order (interval_at gs m) f)) refl refl (in_front f r m (le_of_suc-le-suc h))
+  where
+    go : (x y : Bool) → is_before (order g f) ≡ x → is_before (order (interval_at gs m) f) ≡ y → y ≡ ltb m (place f gs)
+        → y ≡ ltb (suc m) (cond x (suc (place f gs)) 0)
+    go true y e k i = rw compare.suc-suc i
+    go false false e k i = sym (le-ltb (suc m) 0 (omega arith))
+    go false true e k i =
+        let p : Before g f = before_trans g (interval_at gs m) f (index_of_every no_focal b m (le_of_suc-le-suc h)) (before_true (interval_at gs m) f k) in
+        differ (sym (ap is_before (order_before g f p)) ∙ e)
 
-place_above : (f : Focal) {l : List Focal} → InOrder l → (m : ℕ) → m < length l → is_before (order (interval_at l m) f) ≡ true → m < place f l
-place_above f InOrder.none m h e = absurd (not-suc-le-zero h)
-place_above f (InOrder.more {f = g} {fs = gs} b r) zero h e = rw e (omega arith)
-place_above f (InOrder.more {f = g} {fs = gs} b r) (suc m) h e =
-    let k : m < place f gs = place_above f r m (le_of_suc-le-suc h) e in
-    let p : Before g f = before_trans g (interval_at gs m) f (index_of_every no_focal b m (le_of_suc-le-suc h)) (before_true (interval_at gs m) f e) in
-    rw (ap is_before (order_before g f p)) (omega arith)
+-- A test of record m is whether it lies in front of the place.
+tested : (rs : List (List ℕ)) (f : Focal) (m : ℕ) (d : List ℕ) → InOrder (map head_record rs) → m < length rs
+    → is_before (order (head_record (get_or rs m d)) f) ≡ ltb m (place f (map head_record rs))
+tested rs f m d o h = ap (λ (g : Focal). is_before (order g f)) (sym (record_is rs m d h)) ∙ in_front f o m (rw length-map h)
 
--- So does the answer of a test of record m of a list.
-pub tested_above : (r : Records) (key m : ℕ) {b : Bool} → InOrder (records_of r) → m < r.count → b ≡ is_before (order (record_at r.bytes.now m) (keyed key 0)) → b ≡ true
-    → m < place (keyed key 0) (records_of r)
-tested_above r key m o h e t =
-    place_above (keyed key 0) o m (rw length-records h) (ap (λ (g : Focal). is_before (order g (keyed key 0))) (records_at r.count m r.bytes.now h) ∙ sym e ∙ t)
+module _ (r : Records) (key m : ℕ) {b : Bool} (o : InOrder (records_of r)) (h : m < length r.records.now)
+    (e : b ≡ is_before (order (head_record (get_or r.records.now m [])) (keyed key 0)))
+  where
+    pub tested_above : b ≡ true → m < place (keyed key 0) (records_of r)
+    tested_above t = ltb-true m (place (keyed key 0) (records_of r)) (sym (tested r.records.now (keyed key 0) m [] o h) ∙ sym e ∙ t)
 
-pub tested_below : (r : Records) (key m : ℕ) {b : Bool} → m < r.count → b ≡ is_before (order (record_at r.bytes.now m) (keyed key 0)) → b ≡ false
-    → place (keyed key 0) (records_of r) ≤ m
-tested_below r key m h e t =
-    place_below (keyed key 0) (records_of r) m (rw length-records h) (ap (λ (g : Focal). is_before (order g (keyed key 0))) (records_at r.count m r.bytes.now h) ∙ sym e ∙ t)
+    pub tested_below : b ≡ false → place (keyed key 0) (records_of r) ≤ m
+    tested_below t = ltb-false m (place (keyed key 0) (records_of r)) (sym (tested r.records.now (keyed key 0) m [] o h) ∙ sym e ∙ t)
 
-pub place_count : (f : Focal) (r : Records) → place f (records_of r) ≤ r.count
-place_count f r = omega (arith, place_within f (records_of r), length-records r.count r.bytes.now)
+pub place_count : (f : Focal) (r : Records) → place f (records_of r) ≤ length r.records.now
+place_count f r = omega (arith, place_within f (records_of r), length-map r.records.now head_record)
+
+pub place_in : (f : Focal) (n : ℕ) (s : List ℕ) → place f (records n s) ≤ n
+place_in f n s = omega (arith, place_within f (records n s), length-records n s)
+
+-- ---- a search of the records from one to another
+
+module _ (rs : List (List ℕ)) (f : Focal) (o : InOrder (map head_record rs)) (from to : ℕ) (h : to ≤ length rs) where
+  abbrev p : ℕ
+  p = place f (map head_record rs)
+
+  abbrev part : List (List ℕ)
+  part = take (to - from) (drop from rs)
+
+  abbrev comes_before : List ℕ → Bool
+  comes_before r = is_before (order (head_record r) f)
+
+  size : length part ≡ to - from
+  size = length-take-le (to - from) (drop from rs) (rw length-drop (omega arith))
+
+  in_part : (m : ℕ) (d : List ℕ) → m < length part → comes_before (get_or part m d) ≡ ltb (from + m) p
+  in_part m d k =
+      ap comes_before (get_or-take (to - from) (drop from rs) m d (omega (arith, size)) ∙ get_or-drop from rs m d) ∙ tested rs f (from + m) d o (omega (arith, size))
+
+  parted : IsPartitionedBy comes_before part
+  parted i j d l k e =
+      let v : from + j < p = ltb-true (from + j) p (sym (in_part j d k) ∙ e) in
+      in_part i d (omega arith) ∙ lt-ltb (from + i) p (omega arith)
+
+  pub bisected : from ≤ p → p ≤ to → (i : ℕ) → i ≤ length part
+      → (IsPartitionedBy comes_before part → IsPartitionPoint (λ r. comes_before r ≡ true) (λ r. comes_before r ≡ false) part i) → from + i ≡ p
+  bisected low high i k found =
+      let point = found parted in
+      let below : i < length part → p ≤ from + i = λ q. ltb-false (from + i) p (sym (in_part i [] q) ∙ point.1 i [] (omega arith) q) in
+      let above : p - from < i → from + (p - from) < p =
+      λ q. ltb-true (from + (p - from)) p (sym (in_part (p - from) [] (omega arith)) ∙ point.0 (p - from) [] (omega arith) q) in
+      grind (arith, size)
 
 -- ---- an insertion, from the place
 

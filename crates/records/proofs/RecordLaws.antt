@@ -1,44 +1,37 @@
 -- Laws of records in bytes: read, written, there and back. Callers speak of records by these. Assumes nothing.
-use mathlib.Core.Path.{◌≡◌, refl, sym, ap, ◌∙◌}
-use mathlib.Core.List.{List, [], ◌∷◌, ◌++◌, append_assoc}
+use mathlib.Core.Path.{◌≡◌, refl, sym, ap, ap₂, ◌∙◌}
+use mathlib.Core.List.{List, [], ◌∷◌, ◌++◌, map, append_assoc}
 use Prim.Native.Nat.{ℕ, zero, suc, ◌+◌, ◌*◌, ◌/◌, ◌%◌, ◌^◌, ◌≤◌, ◌<◌}
 use native.Mathlib.Nat.{not-suc-le-zero, le_of_suc-le-suc}
 use native.Mathlib.Numerals.{add-one}
 use native.Mathlib.Omega.{arith}
-use lib.ListN.{length, take, drop, get_or, length-append, length-drop, take-append-drop, drop_of_length-le}
+use lib.ListN.{length, take, drop, get_or, length-append, length-drop, length-map, take-append-drop, drop_of_length-le}
 use lib.Seq.{drop-cons, drop-drop, take-add, length-take-le, take_at, drop_at, take-append-le, take-take}
+use Rattle.std.specs.Simd.{first_chunks}
+use Rattle.std.proofs.lemmas.List.{drop-take, get_or-map}
 use Rattle.theory.specs.Sums.{Every}
 use Rattle.theory.specs.Focal.{weights, no_focal}
 use Rattle.theory.specs.declared.Focal.{Focal}
 use Rattle.numbers.specs.Numbers.{big_endian, number_at, Bytes}
 use Rattle.numbers.proofs.Numbers.{number_split, number_lt, bytes_drop, bytes_take, big_endian-onto, read_back}
-use Rattle.records.specs.Records.{key_of, keyed, bytes_of, encode, head_record, record_at, records, Under, speed_limit}
+use Rattle.records.specs.Bytes.{AllBytes}
+use Rattle.records.specs.Records.{key_of, keyed, bytes_of, encode, head_record, records, interval_at, Under, speed_limit}
 use Rattle.records.specs.Store.{replaced, holding}
 
 -- ---- a record in bytes
 
-pub key_is : (s : List ℕ) (k : ℕ) → k + 4 ≤ length s → number_at s k 4 ≡ key_of (head_record (drop k s))
+pub weight_is : (r : List ℕ) → 12 ≤ length r → number_at r 4 4 * 4294967296 + number_at r 8 4 ≡ (head_record r).weight
 unfolding head_record
-key_is s k h = number_split (drop k s) 0 2 2 (rw length-drop (omega arith))
+weight_is r h = sym (number_split r 4 4 4 h)
 
-pub ends_are : (s : List ℕ) (k : ℕ) → (number_at s k 2 ≡ (head_record (drop k s)).low) × (number_at s (k + 2) 2 ≡ (head_record (drop k s)).high)
-unfolding head_record
-ends_are s k = (refl, rw drop-drop)
-
-pub weight_is : (s : List ℕ) (k : ℕ) → k + 12 ≤ length s → number_at s (k + 4) 4 * 4294967296 + number_at s (k + 8) 4 ≡ (head_record (drop k s)).weight
-unfolding head_record
-weight_is s k h =
-    let e : k + 4 + 4 ≡ k + 8 = omega arith in
-    let whole : number_at s (k + 4) 8 ≡ number_at (drop k s) 4 8 = rw drop-drop in
-    sym (rw e at (number_split s (k + 4) 4 4 (omega arith))) ∙ whole
-
-bytes_key : (key : ℕ) → big_endian 4 key ≡ big_endian 2 (key / speed_limit) ++ big_endian 2 (key % speed_limit)
+-- A key's bytes are those of low and high.
+bytes_key : (f : Focal) → f.high < speed_limit → big_endian 4 (key_of f) ≡ big_endian 2 f.low ++ big_endian 2 f.high
 unfolding big_endian
-bytes_key key =
-    let e0 : key / 16777216 % 256 ≡ key / 65536 / 256 % 256 = omega arith in
-    let e1 : key / 65536 % 256 ≡ key / 65536 / 1 % 256 = omega arith in
-    let e2 : key / 256 % 256 ≡ key % 65536 / 256 % 256 = omega arith in
-    let e3 : key / 1 % 256 ≡ key % 65536 / 1 % 256 = omega arith in
+bytes_key f h =
+    let e0 : key_of f / 16777216 % 256 ≡ f.low / 256 % 256 = omega arith in
+    let e1 : key_of f / 65536 % 256 ≡ f.low / 1 % 256 = omega arith in
+    let e2 : key_of f / 256 % 256 ≡ f.high / 256 % 256 = omega arith in
+    let e3 : key_of f / 1 % 256 ≡ f.high / 1 % 256 = omega arith in
     λ i. e0 i ∷ e1 i ∷ e2 i ∷ e3 i ∷ []
 
 pub length_bytes_of : (r : Focal) → length (bytes_of r) ≡ 12
@@ -53,10 +46,6 @@ from_key f h =
     λ t. record { low = low t; high = high t; weight = f.weight }
 
 -- ---- lists of records
-
--- Interval i of a list.
-abbrev pub interval_at : List Focal → ℕ → Focal
-interval_at l i = get_or l i no_focal
 
 pub length-encode : (l : List Focal) → length (encode l) ≡ 12 * length l
 unfolding encode
@@ -73,37 +62,20 @@ unfolding records
 length-records zero s = refl
 length-records (suc n) s = ap suc (length-records n (drop 12 s))
 
-pub records_at : (n i : ℕ) (s : List ℕ) → i < n → interval_at (records n s) i ≡ record_at s i
-unfolding records
-records_at zero i s h = absurd (not-suc-le-zero h)
-records_at (suc n) zero s h = refl
-records_at (suc n) (suc i) s h =
-    let e : 12 + 12 * i ≡ 12 * suc i = omega arith in
-    records_at n i (drop 12 s) (le_of_suc-le-suc h) ∙ ap head_record (drop-drop (12 * i) 12 s ∙ ap (λ (k : ℕ). drop k s) e)
-
--- A walk along the records takes one after the other.
-pub records_next : (n i : ℕ) (s : List ℕ) → i < n → drop i (records n s) ≡ record_at s i ∷ drop (i + 1) (records n s)
-records_next n i s h =
-    let l : i < length (records n s) = rw length-records h in
-    rw (drop-cons (records n s) i no_focal l, add-one, records_at n i s h)
-
-pub records_end : (n i : ℕ) (s : List ℕ) → n ≤ i → drop i (records n s) ≡ []
-records_end n i s h = drop_of_length-le (records n s) {i = i} (rw length-records h)
-
 -- ---- a record written
 
 -- The weight is stored, and then the key before it.
-pub key_stored : (s : List ℕ) (key weight p : ℕ) → p + 12 ≤ length s → (t : List ℕ) → t ≡ replaced s (p + 4) 8 (big_endian 8 weight)
-    → replaced t p 4 (big_endian 4 key) ≡ replaced s p 12 (bytes_of (keyed key weight))
+pub key_stored : (s : List ℕ) (f : Focal) (p : ℕ) → f.high < speed_limit → p + 12 ≤ length s → (t : List ℕ) → t ≡ replaced s (p + 4) 8 (big_endian 8 f.weight)
+    → replaced t p 4 (big_endian 4 (key_of f)) ≡ replaced s p 12 (bytes_of f)
 unfolding bytes_of
-key_stored s key weight p hs t te =
-    let z : List ℕ = big_endian 8 weight ++ drop (p + 4 + 8) s in
+key_stored s f p hf hs t te =
+    let z : List ℕ = big_endian 8 f.weight ++ drop (p + 4 + 8) s in
     let l : length (take (p + 4) s) ≡ p + 4 = length-take-le (p + 4) s (omega arith) in
     let e : p + 4 + 8 ≡ p + 12 = omega arith in
     let front : take p t ≡ take p s = ap (take p) te ∙ take-append-le p (take (p + 4) s) z (omega arith) ∙ take-take p (p + 4) s (omega arith) in
-    let rest : drop (p + 4) t ≡ big_endian 8 weight ++ drop (p + 12) s =
-    ap (drop (p + 4)) te ∙ drop_at (take (p + 4) s) z (p + 4) l ∙ ap (λ (n : ℕ). big_endian 8 weight ++ drop n s) e in
-    (λ i. front i ++ (bytes_key key i ++ rest i)) ∙ simp append_assoc
+    let rest : drop (p + 4) t ≡ big_endian 8 f.weight ++ drop (p + 12) s =
+    ap (drop (p + 4)) te ∙ drop_at (take (p + 4) s) z (p + 4) l ∙ ap (λ (n : ℕ). big_endian 8 f.weight ++ drop n s) e in
+    (λ i. front i ++ (bytes_key f hf i ++ rest i)) ∙ simp append_assoc
 
 big_endian_at : (s : List ℕ) (a n : ℕ) → Bytes s → a + n ≤ length s → big_endian n (number_at s a n) ≡ take n (drop a s)
 big_endian_at s a n h k =
@@ -144,17 +116,59 @@ records-encode t Every.none h = refl
 records-encode t (Every.more {x = f} {xs = fs} u r) h =
     rw append_assoc (rw (head_back f (encode fs ++ t) u (omega arith), drop_back f (encode fs ++ t), records-encode t r (omega arith)))
 
-head_under : (s : List ℕ) → Bytes s → Under speed_limit (head_record s)
+pub head_under : (s : List ℕ) → Bytes s → Under speed_limit (head_record s)
 unfolding head_record
 head_under s h = (number_lt s 0 2 h, number_lt s 2 2 h)
-
-pub record_under : (s : List ℕ) (i : ℕ) → Bytes s → Under speed_limit (record_at s i)
-record_under s i h = head_under (drop (12 * i) s) (bytes_drop (12 * i) s h)
 
 pub records_under : (n : ℕ) (s : List ℕ) → Bytes s → Every (Under speed_limit) (records n s)
 unfolding records
 records_under zero s h = Every.none
 records_under (suc n) s h = Every.more (head_under s h) (records_under n (drop 12 s) (bytes_drop 12 s h))
+
+-- ---- bytes cut into records
+
+head_cut : (s : List ℕ) → head_record (take 12 s) ≡ head_record s
+unfolding head_record
+head_cut s =
+    rw (
+      drop-take 2 10 s,
+      drop-take 4 8 s,
+      take-take 2 12 s (omega arith),
+      take-take 2 10 (drop 2 s) (omega arith),
+      take-take 8 8 (drop 4 s) (omega arith),
+    )
+
+-- The first n of m.
+pub cut_records : (n m : ℕ) (s : List ℕ) → n ≤ m → map head_record (take n (first_chunks 12 m s)) ≡ records n s
+unfolding records
+cut_records zero m s h = refl
+cut_records (suc n) zero s h = absurd (not-suc-le-zero h)
+cut_records (suc n) (suc m) s h = ap₂ ◌∷◌ (head_cut s) (cut_records n m (drop 12 s) (le_of_suc-le-suc h))
+
+pub cut_bytes : (n m : ℕ) (s : List ℕ) → Bytes s → AllBytes (take n (first_chunks 12 m s))
+cut_bytes zero m s h i = λ j. omega arith
+cut_bytes (suc n) zero s h i = λ j. omega arith
+cut_bytes (suc n) (suc m) s h zero = bytes_take 12 s h
+cut_bytes (suc n) (suc m) s h (suc i) = cut_bytes n m (drop 12 s) (bytes_drop 12 s h) i
+
+-- ---- records that stand one behind the other
+
+pub record_is : (rs : List (List ℕ)) (i : ℕ) (d : List ℕ) → i < length rs → interval_at (map head_record rs) i ≡ head_record (get_or rs i d)
+record_is rs i d h = get_or-map head_record rs i d no_focal h
+
+-- A walk along them takes one after the other.
+pub walk_next : (rs : List (List ℕ)) (i : ℕ) → i < length rs → drop i (map head_record rs) ≡ head_record (get_or rs i []) ∷ drop (i + 1) (map head_record rs)
+walk_next rs i h =
+    let l : i < length (map head_record rs) = rw length-map h in
+    rw (drop-cons (map head_record rs) i no_focal l, add-one, record_is rs i [] h)
+
+pub walk_end : (rs : List (List ℕ)) (i : ℕ) → length rs ≤ i → drop i (map head_record rs) ≡ []
+walk_end rs i h = drop_of_length-le (map head_record rs) {i = i} (rw length-map h)
+
+-- Their ends have 16 bits each.
+pub walk_under : (rs : List (List ℕ)) → AllBytes rs → Every (Under speed_limit) (map head_record rs)
+walk_under [] h = Every.none
+walk_under (r ∷ rs) h = Every.more (head_under r (h 0)) (walk_under rs (λ i. h (suc i)))
 
 -- ---- a list cut in two
 

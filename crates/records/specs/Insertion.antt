@@ -5,7 +5,6 @@ use Rattle.theory.specs.Focal.{weights}
 use Rattle.theory.specs.declared.Focal.{Focal}
 use Rattle.theory.specs.Order.{order, InOrder, inserted}
 use Rattle.theory.specs.Limits.{most_intervals, list_bytes}
-use Rattle.records.specs.declared.Insertion.{Insertion}
 use Rattle.records.specs.Records.{records}
 
 -- Whether an answer of `order` is "before".
@@ -19,9 +18,9 @@ abbrev pub place : Focal → List Focal → ℕ
 place f [] = 0
 place f (g ∷ gs) = cond (is_before (order g f)) (suc (place f gs)) 0
 
--- What an insertion answers: the length that the list then has, and the place; nothing for a 257th interval.
-abbrev pub insertion_of : Focal → List Focal → Option Insertion
-insertion_of f l = cond (leb (length (inserted f l)) most_intervals) (Some (record { count = length (inserted f l); place = place f l })) None
+-- What an insertion answers: the place; nothing for a 257th interval.
+abbrev pub insertion_of : Focal → List Focal → Option ℕ
+insertion_of f l = cond (leb (length (inserted f l)) most_intervals) (Some (place f l)) None
 
 -- A list has at most 256 intervals: a 257th leaves it as it is.
 abbrev pub insert_or_stay : Focal → List Focal → List Focal

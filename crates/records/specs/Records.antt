@@ -1,8 +1,8 @@
 -- "Pairs, allowance and store": a list record has 12 bytes, low 16 bits, high 16 bits, weight 64 bits, each most significant byte
 -- first. Assumes nothing.
-use Rattle.std.specs.Prelude.{ℕ, zero, suc, ◌+◌, ◌*◌, ◌/◌, ◌%◌, ◌^◌, ◌<◌, List, [], ◌∷◌, ◌++◌, drop}
+use Rattle.std.specs.Prelude.{ℕ, zero, suc, ◌+◌, ◌*◌, ◌/◌, ◌%◌, ◌^◌, ◌<◌, List, [], ◌∷◌, ◌++◌, map, get_or, drop}
 use Rattle.theory.specs.Sums.{Every}
-use Rattle.theory.specs.Focal.{focal, weights}
+use Rattle.theory.specs.Focal.{focal, no_focal, weights}
 use Rattle.theory.specs.declared.Focal.{Focal}
 use Rattle.theory.specs.Limits.{record_bytes}
 use Rattle.numbers.specs.Numbers.{big_endian, number_at}
@@ -21,18 +21,17 @@ encode (f ∷ fs) = bytes_of f ++ encode fs
 unfoldable pub head_record : List ℕ → Focal
 head_record s = focal (number_at s 0 2) (number_at s 2 2) (number_at s 4 8)
 
--- Record i of s.
-abbrev pub record_at : List ℕ → ℕ → Focal
-record_at s i = head_record (drop (record_bytes * i) s)
-
 -- The first n records of s.
 unfoldable pub records : ℕ → List ℕ → List Focal
 records zero s = []
 records (suc n) s = head_record s ∷ records n (drop record_bytes s)
 
--- The list that records are.
+-- The list that records are, and interval i of a list.
 abbrev pub records_of : Records → List Focal
-records_of r = records r.count r.bytes.now
+records_of r = map head_record r.records.now
+
+abbrev pub interval_at : List Focal → ℕ → Focal
+interval_at l i = get_or l i no_focal
 
 -- Low and high take 16 bits each, so a record holds speeds below this.
 abbrev pub speed_limit : ℕ

@@ -2,6 +2,7 @@
 use Rattle.std.specs.Prelude.{ℕ, ◌+◌, ◌*◌, ◌-◌, List, ◌++◌, length, take, drop, replicate}
 use Rattle.theory.specs.declared.Focal.{Focal}
 use Rattle.theory.specs.Limits.{record_bytes}
+use Rattle.records.specs.declared.Span.{Span}
 use Rattle.records.specs.Records.{bytes_of, encode, records}
 
 -- In s the n bytes from `start` on are replaced by others.
@@ -23,6 +24,10 @@ holding s l = encode l ++ drop (record_bytes * length l) s
 -- The list of n records from byte `start` of a store on.
 abbrev pub list_in : List ℕ → ℕ → ℕ → List Focal
 list_in s start n = records n (drop start s)
+
+-- A list of a store.
+abbrev pub list_of_span : List ℕ → Span → List Focal
+list_of_span s span = list_in s span.start span.count
 
 -- The list l stands in the store s from byte `free` on, and all other bytes are as they were.
 abbrev pub holding_from : List ℕ → ℕ → List Focal → List ℕ

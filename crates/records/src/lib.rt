@@ -1,111 +1,111 @@
 // Lists of intervals in a buffer that the caller lends: records of 12 bytes, low 16 bits, high 16 bits, weight 64 bits, each most
 // significant byte first. Low and high as one number are a record's key.
+// Where a number is cast there is no `From`, and the check proves that nothing is lost.
 #![tactic(auto)]
 
-ghost use Rattle.std.specs.Prelude.{◌≡◌, ◌+◌, ◌*◌, ◌≤◌, ◌<◌, ◌&&◌, ltb, length};
+ghost use Rattle.std.specs.Prelude.{◌≡◌, ◌+◌, ◌*◌, ◌/◌, ◌≤◌, ◌&&◌, ltb, min, length};
 ghost use Rattle.std.proofs.Math.Dec.{compare_is_eq};
 ghost use Rattle.theory.specs.Order.{order, InOrder};
 ghost use Rattle.theory.specs.Limits.{record_bytes};
-ghost use Rattle.records.specs.Records.{record_at, records, key_of, keyed, records_of};
-ghost use Rattle.records.specs.Store.{with_record, zeroed, holding, list_in, settled};
+ghost use Rattle.numbers.specs.Numbers.{Bytes};
+ghost use Rattle.records.specs.Records.{head_record, records, records_of, interval_at, key_of, keyed};
+ghost use Rattle.records.specs.Store.{with_record, zeroed, holding, list_of_span, settled};
 ghost use Rattle.records.specs.Insertion.{is_before, place, insertion_of, insert_or_stay, Insertable};
 
 mod view;
 
 use theory::{Focal, MOST_INTERVALS, RECORD_BYTES};
-pub use view::Records;
+pub use view::{Record, Records};
 
 // Low and high take 16 bits each: a key is low * SPEED_LIMIT + high.
 const SPEED_LIMIT: u64 = 65536;
 
 // The key of an interval.
-pub fn key_of(f: Focal) -> u64
+fn key_of(f: Focal) -> u64
     ensures { result ≡ key_of f }
 {
     u64::from(f.low) * SPEED_LIMIT + u64::from(f.high)
 }
 
-impl<'a> Records<'a> {
-    pub fn new(bytes: &'a [u8], count: usize) -> Records<'a>
-        requires { record_bytes * count ≤ length bytes.now }
-        ensures { (result.bytes ≡ bytes.entry) × (result.count ≡ count) }
-    {
-        Records { bytes, count }
+// The interval of a record. Each number is one load; the weight is taken in two halves of 32 bits, so that it is loads too.
+pub fn focal_in(bytes: &Record) -> Focal
+    ensures { result ≡ head_record bytes.now }
+{
+    let weight_high = numbers::read_number(bytes, 4, 4);
+    let weight_low = numbers::read_number(bytes, 8, 4);
+    Focal {
+        low: numbers::read_number(bytes, 0, 2) as u16,
+        high: numbers::read_number(bytes, 2, 2) as u16,
+        weight: weight_high * 4294967296 + weight_low,
     }
+}
 
-    // Record i. Each number is one load; the weight is taken in two halves of 32 bits, so that it is loads too.
-    pub fn get(&self, i: usize) -> Focal
-        requires { i < self.now.count }
-        ensures { result ≡ record_at self.now.bytes.now i }
+// The key of a record.
+fn key_in(bytes: &Record) -> u64
+    ensures { result ≡ key_of (head_record bytes.now) }
+{
+    numbers::read_number(bytes, 0, 4)
+}
+
+// Whether a record comes before the interval of the key: the greater key comes first. The one comparison by which lists are ordered.
+fn precedes(bytes: &Record, key: u64) -> bool
+    ensures { result ≡ is_before (order (head_record bytes.now) (keyed key 0)) }
+{
+    key < key_in(bytes)
+}
+
+impl<'a> Records<'a> {
+    // The first n records of bytes. `bytes_fit` is for a caller whose slice is a `Listing`'s: that it holds bytes is not known there otherwise.
+    fn first(bytes: &'a [u8], n: usize) -> Records<'a>
+        requires { record_bytes * n ≤ length bytes.now }
+        ensures list { records_of result ≡ records n bytes.now }
+        ensures bytes_fit { Bytes bytes.now }
     {
-        let at = RECORD_BYTES * i;
-        let weight_high = numbers::read_number(self.bytes, at + 4, 4);
-        let weight_low = numbers::read_number(self.bytes, at + 8, 4);
-        Focal {
-            low: numbers::read_number(self.bytes, at, 2) as u16,
-            high: numbers::read_number(self.bytes, at + 2, 2) as u16,
-            weight: weight_high * 4294967296 + weight_low,
+        Records {
+            records: &bytes.as_chunks().0[..n],
         }
     }
 
-    // The key of record i.
-    fn key(&self, i: usize) -> u64
-        requires { i < self.now.count }
-        ensures { result ≡ key_of (record_at self.now.bytes.now i) }
+    // The first `count` records of bytes, or as many as they hold.
+    pub fn new(bytes: &'a [u8], count: usize) -> Records<'a>
+        ensures all { records_of result ≡ records (min count (length bytes.now / record_bytes)) bytes.now }
+        ensures inside { record_bytes * count ≤ length bytes.now → records_of result ≡ records count bytes.now }
     {
-        numbers::read_number(self.bytes, RECORD_BYTES * i, 4)
-    }
-
-    // Whether record i comes before the interval of the key: the greater key comes first. The one comparison by which lists are ordered.
-    fn precedes(&self, i: usize, key: u64) -> bool
-        requires { i < self.now.count }
-        ensures { result ≡ is_before (order (record_at self.now.bytes.now i) (keyed key 0)) }
-    {
-        key < self.key(i)
+        Records::first(bytes, count.min(bytes.len() / RECORD_BYTES))
     }
 
     // Whether there is a record i, and it is the interval of the key.
     fn matches(&self, i: usize, key: u64) -> bool
-        ensures { result ≡ (ltb i self.now.count && compare_is_eq (order (record_at self.now.bytes.now i) (keyed key 0))) }
+        ensures { result ≡ (ltb i (length self.now.records.now) && compare_is_eq (order (interval_at (records_of self.now) i) (keyed key 0))) }
     {
-        i < self.count && self.key(i) == key
+        i < self.records.len() && key_in(&self.records[i]) == key
     }
 
     // The place of the key's interval, which lies from `from` to `to`.
     fn bisect(&self, key: u64, from: usize, to: usize) -> usize
         requires in_order { InOrder (records_of self.now) }
-        requires between { (from ≤ place (keyed key 0) (records_of self.now)) × (place (keyed key 0) (records_of self.now) ≤ to) × (to ≤ self.now.count) }
+        requires between { (from ≤ place (keyed key 0) (records_of self.now)) × (place (keyed key 0) (records_of self.now) ≤ to) × (to ≤ length self.now.records.now) }
         ensures { result ≡ place (keyed key 0) (records_of self.now) }
     {
-        // By hand: these are bytes that C lends, and not a slice of records.
-        let mut lo = from;
-        let mut hi = to;
-        while lo < hi {
-            let mid = lo + ((hi - lo) >> 1);
-            if self.precedes(mid, key) {
-                lo = mid + 1;
-            } else {
-                hi = mid;
-            }
-        }
-        lo
+        from + self.records[from..to].partition_point(|r| precedes(r, key))
     }
 
     // The place of the key's interval. The hint is any number: where it is that of a record, the search begins there.
+    #[tactic(auto, using(crate::proofs::Place::place_count))]
     fn find(&self, key: u64, hint: usize) -> usize
         requires { InOrder (records_of self.now) }
         ensures { result ≡ place (keyed key 0) (records_of self.now) }
     {
-        let n = self.count;
+        let n = self.records.len();
         if n <= hint {
             return self.bisect(key, 0, n);
         }
-        if self.precedes(hint, key) {
+        if precedes(&self.records[hint], key) {
             let next = hint + 1;
             if next == n {
                 return n;
             }
-            if self.precedes(next, key) {
+            if precedes(&self.records[next], key) {
                 self.bisect(key, next + 1, n)
             } else {
                 next
@@ -115,7 +115,7 @@ impl<'a> Records<'a> {
                 return 0;
             }
             let previous = hint - 1;
-            if self.precedes(previous, key) {
+            if precedes(&self.records[previous], key) {
                 hint
             } else {
                 self.bisect(key, 0, previous)
@@ -124,48 +124,66 @@ impl<'a> Records<'a> {
     }
 }
 
-// What an insertion answers: the length that the list then has, and the interval's place.
-#[derive(Clone, Copy)]
-pub struct Insertion {
+// A list that is written: the first `count` records of bytes. The library's `as_chunks_mut` says nothing of the bytes afterwards, so a record is
+// written by its place.
+#[derive(Drop)]
+pub struct Listing<'a> {
+    pub bytes: &'a mut [u8],
     pub count: usize,
-    pub place: usize,
 }
 
 // Writes record i.
-fn write_record(s: &mut [u8], i: usize, key: u64, weight: u64)
+fn write_record(s: &mut [u8], i: usize, f: Focal)
     requires { record_bytes * i + record_bytes ≤ length s.old }
-    ensures { s.new ≡ with_record s.old i (keyed key weight) }
+    ensures { s.new ≡ with_record s.old i f }
 {
-    numbers::write_number(s, RECORD_BYTES * i + 4, 8, weight);
-    numbers::write_number(s, RECORD_BYTES * i, 4, key);
+    numbers::write_number(s, RECORD_BYTES * i + 4, 8, f.weight);
+    numbers::write_number(s, RECORD_BYTES * i, 4, key_of(f));
 }
 
-// Puts the key's interval with its weight into the list of the first n records: an equal interval gets the weight added. None where
-// the list would then have 257: all bytes stay as they are.
-#[tactic(auto, using(crate::proofs::Place::place_count))]
-pub fn insert(s: &mut [u8], n: usize, key: u64, weight: u64, hint: usize) -> Option<Insertion>
-    requires { Insertable s.old n weight }
-    ensures value { result ≡ insertion_of (keyed key weight) (records n s.old) }
-    ensures s_after { s.new ≡ holding s.old (insert_or_stay (keyed key weight) (records n s.old)) }
-{
-    let list = Records::new(s, n);
-    let place = list.find(key, hint);
-    if list.matches(place, key) {
-        let old = list.get(place).weight;
-        write_record(s, place, key, weight + old);
-        return Some(Insertion { count: n, place });
+impl<'a> Listing<'a> {
+    // Puts an interval with its weight into the list, and answers its place: an equal interval gets the weight added. None where the list
+    // would then have 257: all bytes stay as they are.
+    #[tactic(auto, using(crate::proofs::Place::place_in))]
+    pub fn insert(&mut self, f: Focal, hint: usize) -> Option<usize>
+        requires { Insertable self.old.bytes.now self.old.count f.weight }
+        ensures value { result ≡ insertion_of f (records self.old.count self.old.bytes.now) }
+        ensures bytes { self.new.bytes.now ≡ holding self.old.bytes.now (insert_or_stay f (records self.old.count self.old.bytes.now)) }
+        ensures count { self.new.count ≡ length (insert_or_stay f (records self.old.count self.old.bytes.now)) }
+        ensures same_reference { self.new.bytes.ghost_name ≡ self.old.bytes.ghost_name }
+    {
+        // By a name of its own: of a field that is lent only the length would be known.
+        let bytes = &mut *self.bytes;
+        let n = self.count;
+        let key = key_of(f);
+        let list = Records::first(bytes, n);
+        let place = list.find(key, hint);
+        if list.matches(place, key) {
+            let old = focal_in(&list.records[place]);
+            let sum = Focal {
+                weight: f.weight + old.weight,
+                ..f
+            };
+            write_record(bytes, place, sum);
+            return Some(place);
+        }
+        if n == MOST_INTERVALS {
+            return None;
+        }
+        let at = RECORD_BYTES * place;
+        // Within the bytes from `at` on, so that the distance is a constant: the compiler makes one `memmove` of it then.
+        bytes[at..].copy_within(..RECORD_BYTES * n - at, RECORD_BYTES);
+        write_record(bytes, place, f);
+        self.count = n + 1;
+        Some(place)
     }
-    if n == MOST_INTERVALS {
-        return None;
-    }
-    let at = RECORD_BYTES * place;
-    // Within the bytes from `at` on, so that the distance is a constant: the compiler makes one `memmove` of it then.
-    s[at..].copy_within(..RECORD_BYTES * n - at, RECORD_BYTES);
-    write_record(s, place, key, weight);
-    Some(Insertion {
-        count: n + 1,
-        place,
-    })
+}
+
+// A list in a store: the byte at which it starts, and how many records it has. No slice: the store is written while its lists stand in it.
+#[derive(Clone, Copy, Default)]
+pub struct Span {
+    pub start: usize,
+    pub count: usize,
 }
 
 // Makes the bytes from `from` up to `to` zero.
@@ -176,12 +194,12 @@ pub fn clear(s: &mut [u8], from: usize, to: usize)
     s[from..to].fill(0);
 }
 
-// Moves the list of n records from byte `start` on to the front, and makes the rest of the first `end` bytes zero.
-pub fn settle(store: &mut [u8], start: usize, n: usize, end: usize)
-    requires { (start + record_bytes * n ≤ end) × (end ≤ length store.old) }
-    ensures { store.new ≡ settled end (list_in store.old start n) store.old }
+// Moves a list to the front of a store, and makes the rest of the first `end` bytes zero.
+pub fn settle(store: &mut [u8], list: Span, end: usize)
+    requires { (list.start + record_bytes * list.count ≤ end) × (end ≤ length store.old) }
+    ensures { store.new ≡ settled end (list_of_span store.old list) store.old }
 {
-    let bytes = RECORD_BYTES * n;
-    store.copy_within(start..start + bytes, 0);
+    let bytes = RECORD_BYTES * list.count;
+    store.copy_within(list.start..list.start + bytes, 0);
     clear(store, bytes, end);
 }

@@ -1,14 +1,15 @@
-// A list that is read where it stands. The struct has a file of its own: its ghost fields must not lead back to what names it.
+// A list that is read where it stands. The struct has a file of its own: its ghost field must not lead back to what names it.
 
-ghost use Rattle.std.specs.Prelude.{◌*◌, ◌≤◌, length};
-ghost use Rattle.theory.specs.Limits.{record_bytes};
-ghost use Rattle.numbers.specs.Numbers.{Bytes};
+ghost use Rattle.records.specs.Bytes.{AllBytes};
 
-// The first `count` records of `bytes`.
+use theory::RECORD_BYTES;
+
+// The bytes of an interval: low 16 bits, high 16 bits, weight 64 bits, each most significant byte first.
+pub type Record = [u8; RECORD_BYTES];
+
+// Records that stand one behind the other.
 #[derive(Clone, Copy)]
 pub struct Records<'a> {
-    pub bytes: &'a [u8],
-    pub count: usize,
-    ghost inside: { record_bytes * count ≤ length bytes.now },
-    ghost bytes_fit: { Bytes bytes.now },
+    pub records: &'a [Record],
+    ghost bytes_fit: { AllBytes records.now },
 }

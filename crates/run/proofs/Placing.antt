@@ -10,10 +10,9 @@ use lib.Seq.{get_or-set_same, get_or-set_other}
 use Rattle.theory.specs.declared.Focal.{Focal}
 use Rattle.theory.specs.Limits.{most_intervals, most_components, record_bytes, list_bytes}
 use Rattle.records.specs.Records.{Storable}
-use Rattle.records.specs.Store.{holding_from, zeroed, settled}
+use Rattle.records.specs.Store.{holding_from, list_of_span, zeroed, settled}
 use Rattle.records.proofs.Store.{length_from, list_in_from, list_in_before, drop_from}
-use Rattle.joins.specs.declared.Span.{Span}
-use Rattle.joins.specs.Joins.{list_of_span}
+use Rattle.records.specs.declared.Span.{Span}
 use Rattle.run.specs.declared.Stack.{Stack}
 use Rattle.run.specs.Stack.{no_span, span_at, lists_below, with_list}
 use Rattle.run.specs.Run.{cleared}

@@ -1,6 +1,6 @@
 -- A plan that keeps the rules runs into the store: what holds while `rest` of its entries is left. Assumes nothing.
 use Prim.Native.Nat.{ℕ, zero, suc, ◌+◌, ◌-◌, ◌*◌, ◌≤◌, ◌<◌}
-use mathlib.Core.Path.{◌≡◌, refl, sym, ap, ap₂, subst, ◌∙◌}
+use mathlib.Core.Path.{◌≡◌, refl, sym, ap, ap₂, ◌∙◌}
 use mathlib.Core.Bool.{Bool, true, false, cond, false≢true}
 use mathlib.Core.List.{List, [], ◌∷◌}
 use Rattle.std.proofs.Common.{Result, Ok, Err}
@@ -8,7 +8,7 @@ use native.Mathlib.Numerals.{add-one}
 use native.Mathlib.Omega.{arith}
 use lib.Dec.{ltb}
 use borrow.Author.Tests.{ltb-false, le-ltb}
-use lib.ListN.{length, drop}
+use lib.ListN.{length, get_or, drop}
 use Rattle.theory.specs.Sums.{Every}
 use Rattle.theory.specs.Masses.{masses}
 use Rattle.theory.specs.declared.Focal.{Focal}
@@ -18,7 +18,7 @@ use Rattle.theory.specs.Structure.{named, joins_find_two}
 use Rattle.theory.specs.Order.{collect}
 use Rattle.theory.specs.Lists.{no_component}
 use Rattle.theory.specs.Evaluation.{Evaluation, completed, refused, refuse_if, walk_lists}
-use Rattle.theory.specs.Limits.{most_masses, most_intervals, most_components, record_bytes, list_bytes}
+use Rattle.theory.specs.Limits.{most_held, most_masses, most_intervals, most_components, record_bytes, list_bytes}
 use Rattle.theory.specs.declared.Component.{Component}
 use Rattle.theory.specs.declared.Join.{Join}
 use Rattle.theory.specs.declared.Refusal.{Refusal}
@@ -26,19 +26,19 @@ use Rattle.theory.specs.Refusals.{refusal_number}
 use Rattle.theory.proofs.Every.{index_of_every}
 use Rattle.theory.proofs.Structure.{named-length}
 use Rattle.theory.proofs.Totals.{fits_pairs, fits_join, fits_weights, fits_leaf, Fits}
-use Rattle.records.specs.Store.{holding_from}
+use Rattle.records.specs.Store.{holding_from, list_of_span}
 use Rattle.records.proofs.RecordLaws.{length-records}
 use Rattle.records.proofs.Store.{drop_from}
 use Rattle.joins.specs.Filling.{Filled, fill}
-use Rattle.joins.specs.Joins.{list_of_span, pairs_in, Operand}
+use Rattle.joins.specs.Joins.{pairs_in, Operand}
 use Rattle.joins.proofs.Filling.{grown}
 use Rattle.joins.proofs.Answer.{fill_made}
 use Rattle.plan.specs.declared.Plan.{Plan}
-use Rattle.plan.specs.Plan.{component_at, components_of, entries_of}
+use Rattle.plan.specs.Plan.{components_of, entries_of}
 use Rattle.plan.specs.Valid.{Known}
-use Rattle.plan.proofs.Entries.{known_component, components_count, component_is}
+use Rattle.plan.proofs.Entries.{known_component, components_count}
 use Rattle.run.specs.declared.Stack.{Stack}
-use Rattle.run.specs.Stack.{empty_stack, list_at, lists_below, with_list, Pushable, pushed, pushed_store, top_span, top_joined, spent, Applicable, join_step, stack_then, join_store}
+use Rattle.run.specs.Stack.{empty_stack, list_at, lists_below, with_list, pushed, pushed_store, top_span, top_joined, spent, Applicable, join_step, stack_then, join_store}
 use Rattle.run.specs.Run.{needed, leaf_list, walked, Runnable}
 use Rattle.run.proofs.Entries.{join_count, counted}
 use Rattle.run.proofs.Stacked.{Stacked, none, more, Topmost, top_two_of, fits_record, length_leaf}
@@ -100,13 +100,13 @@ module _ {p : Plan} {store₀ : List ℕ} (ready : Runnable p store₀) {allowan
   -- ---- a component's entry
   module _ {store : List ℕ} {j : ℕ} {rest : List Entry} {st : Stack} (running : Running p allowance store₀ (component j ∷ rest) store st) where
     abbrev c : Component
-    c = component_at p j
+    c = get_or (components_of p) j no_component
 
     pub component_below : j < p.count
     component_below = known_component (every_first running.known).0
 
     of_component : {P : Component → Type 0} → Every P (components_of p) → P c
-    of_component {P} h = subst P (component_is p j component_below) (index_of_every no_component h j (omega (arith, component_below, components_count p)))
+    of_component h = index_of_every no_component h j (omega (arith, component_below, components_count p))
 
     fits : Fits 1 (collect (masses c))
     fits = fits_leaf c (of_component ready.valid.in_range) (omega (arith, of_component ready.valid.totals, of_component ready.valid.balanced))
@@ -114,17 +114,14 @@ module _ {p : Plan} {store₀ : List ℕ} (ready : Runnable p store₀) {allowan
     push_room : (st.depth < most_components) × (st.free + list_bytes ≤ needed p)
     push_room = omega (arith, running.height, running.unnamed, running.balance, running.room, ready.valid.most)
 
-    pub pushable : Pushable c store st
-    pushable = record {
-      place = push_room.0;
-      room = omega (arith, push_room, ready.enough, running.stored.same_length);
-      count = (of_component ready.valid.counts).1;
-    }
+    -- It holds at most eight intervals.
+    pub holds_eight : c.count ≤ most_held
+    holds_eight = (of_component ready.valid.counts).1
 
     pub push_next : Running p allowance store₀ rest (pushed_store c store st) (pushed c st)
     push_next =
         let l : List Focal = collect (masses c) in
-        let short : length l ≤ most_masses = length_leaf c (of_component ready.valid.counts).1 in
+        let short : length l ≤ most_masses = length_leaf c holds_eight in
         let top : lists_below (pushed_store c store st) (pushed c st) (st.depth + 1) ≡ l ∷ lists_below store st st.depth =
         on_top running.stored ready.enough st.depth st.pairs l (omega arith) push_room.0 push_room.1 (omega arith) (fits_record fits (omega arith)) in
         record {
@@ -138,7 +135,7 @@ module _ {p : Plan} {store₀ : List ℕ} (ready : Runnable p store₀) {allowan
           two = rw (add-one st.depth) running.two;
           room = omega (arith, running.room, short);
           allowed = running.allowed;
-          walks = rw (top, ← component_is p j component_below) running.walks;
+          walks = rw top running.walks;
         }
 
   -- ---- a join's entry

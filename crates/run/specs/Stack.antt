@@ -3,14 +3,14 @@ use Rattle.std.specs.Prelude.{ℕ, zero, suc, ◌+◌, ◌-◌, ◌*◌, ◌≤�
 use Rattle.theory.specs.Masses.{masses}
 use Rattle.theory.specs.declared.Focal.{Focal}
 use Rattle.theory.specs.Order.{collect}
-use Rattle.theory.specs.Limits.{most_held, most_intervals, most_components, record_bytes, list_bytes}
+use Rattle.theory.specs.Limits.{most_intervals, most_components, record_bytes, list_bytes}
 use Rattle.theory.specs.declared.Component.{Component}
 use Rattle.theory.specs.declared.Join.{Join}
 use Rattle.theory.specs.declared.Refusal.{Refusal}
 use Rattle.theory.specs.declared.Refusal.TheVariants.{Allowance, ListLength}
-use Rattle.records.specs.Store.{holding_from}
-use Rattle.joins.specs.declared.Span.{Span}
-use Rattle.joins.specs.Joins.{list_of_span, join_in, joined_store, Joinable}
+use Rattle.records.specs.declared.Span.{Span}
+use Rattle.records.specs.Store.{list_of_span, holding_from}
+use Rattle.joins.specs.Joins.{join_in, joined_store, Joinable}
 use Rattle.run.specs.declared.Stack.{Stack}
 
 -- No list.
@@ -46,10 +46,9 @@ abbrev pub pushed_store : Component → List ℕ → Stack → List ℕ
 pushed_store c store st = holding_from store st.free (collect (masses c))
 
 -- It asks for a place on the stack, and for room for a list.
-pub record Pushable (c : Component) (store : List ℕ) (st : Stack) : Type 0 where
+pub record Pushable (store : List ℕ) (st : Stack) : Type 0 where
   pub place : st.depth < most_components
   pub room : st.free + list_bytes ≤ length store
-  pub count : c.count ≤ most_held
 
 -- Where list k from the top stands, the topmost being 1.
 abbrev pub top_span : Stack → ℕ → Span

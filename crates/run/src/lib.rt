@@ -1,18 +1,19 @@
 // The run of a plan in a store that the caller lends: its entries one after the other, on a stack of lists.
+// Where a number is cast there is no `From`, and the check proves that nothing is lost.
 #![tactic(auto)]
 
 ghost use Rattle.std.specs.Prelude.{◌≡◌, ◌+◌, ◌*◌, ◌^◌, ◌<◌};
 ghost use Rattle.theory.specs.Limits.{most_components, record_bytes};
-ghost use Rattle.run.specs.Stack.{empty_stack, with_list, Pushable, pushed, pushed_store, Applicable, join_step, stack_then, join_store};
+ghost use Rattle.run.specs.Stack.{with_list, Pushable, pushed, pushed_store, Applicable, join_step, stack_then, join_store};
 ghost use Rattle.run.specs.Run.{store_for, needed, walked, ran_as, ran_of, store_of, Runnable};
 
-use joins::Span;
 use plan::Plan;
-use theory::{Component, Entry, Join, MOST_COMPONENTS, RECORD_BYTES, Refusal, STORE_BYTES};
+use records::Span;
+use theory::{Entry, HeldComponent, Join, MOST_COMPONENTS, RECORD_BYTES, Refusal, STORE_BYTES};
 
 // The lists on the stack, the first `depth` in use; the byte behind them all; the pairs formed so far. No heap: a vector of fixed capacity in
 // place of array and depth would be as long, with two unwraps and a further crate in what C links.
-#[derive(Clone, Copy)]
+#[derive(Clone, Copy, Default)]
 pub struct Stack {
     pub lists: [Span; MOST_COMPONENTS],
     pub depth: usize,
@@ -35,17 +36,6 @@ pub fn store_for(n: usize) -> usize
 }
 
 impl Stack {
-    fn new() -> Stack
-        ensures { result ≡ empty_stack }
-    {
-        Stack {
-            lists: [Span { start: 0, count: 0 }; MOST_COMPONENTS],
-            depth: 0,
-            free: 0,
-            pairs: 0,
-        }
-    }
-
     // Makes the n records from the free rest's first byte on the topmost list, at place d.
     fn put_list(&mut self, d: usize, n: usize)
         requires { (d < most_components) × (self.old.free + record_bytes * n < 2 ^ 64) }
@@ -60,10 +50,10 @@ impl Stack {
     }
 
     // A component's entry: its list goes into the store behind the lists already there.
-    fn push(&mut self, c: Component, store: &mut [u8])
-        requires { Pushable c store.old self.old }
-        ensures self_after { self.new ≡ pushed c self.old }
-        ensures store_after { store.new ≡ pushed_store c store.old self.old }
+    fn push(&mut self, c: HeldComponent, store: &mut [u8])
+        requires { Pushable store.old self.old }
+        ensures self_after { self.new ≡ pushed c.entry.component.now self.old }
+        ensures store_after { store.new ≡ pushed_store c.entry.component.now store.old self.old }
     {
         let n = joins::put_in_store(c, store, self.free);
         self.put_list(self.depth, n);
@@ -95,10 +85,10 @@ pub fn run_plan(p: Plan, allowance: u32, store: &mut [u8]) -> Result<Run, Refusa
     ensures store_after { store.new ≡ store_of (needed p) (walked p allowance) store.old }
 {
     let size = store_for(p.count);
-    let mut stack = Stack::new();
+    let mut stack = Stack::default();
     for code in p.used_codes() {
         match Entry::from(*code) {
-            Entry::Component(i) => stack.push(p.components[i], store),
+            Entry::Component(i) => stack.push(HeldComponent::new(&p.used_components()[i]), store),
             Entry::Join(op) => {
                 if let Err(refusal) = stack.join(op, store, allowance) {
                     records::clear(store, 0, size);
@@ -108,7 +98,7 @@ pub fn run_plan(p: Plan, allowance: u32, store: &mut [u8]) -> Result<Run, Refusa
         }
     }
     let left = stack.lists[0];
-    records::settle(store, left.start, left.count, size);
+    records::settle(store, left, size);
     Ok(Run {
         pairs: stack.pairs,
         intervals: left.count,

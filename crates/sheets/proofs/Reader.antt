@@ -9,14 +9,19 @@ use lib.Dec.{ltb, eqb}
 use lib.ListN.{length, take, drop, replicate}
 use lib.Seq.{take_at, drop_at}
 use borrow.Author.Tests.{lt-ltb, le-ltb, ltb-true, ltb-false}
+use Rattle.std.specs.Prelude.{Result, Ok, Err}
+use Rattle.std.specs.Result.{result_unwrap_or}
 use Rattle.theory.specs.Sums.{Every, more}
+use Rattle.theory.specs.declared.Refusal.{Refusal}
+use Rattle.theory.specs.Refusals.{refusal_number, number_in}
+use Rattle.theory.proofs.Refusals.{numbered, above_zero}
 use Rattle.theory.proofs.Every.{every_split}
 use Rattle.numbers.specs.Numbers.{big_endian}
+use Rattle.plan.specs.declared.Plan.{Plan}
 use Rattle.plan.specs.Plan.{zero_plan, cleaned_plan}
-use Rattle.plan.specs.Tests.{test, Unbroken, First}
-use Rattle.plan.proofs.Numbers.{accepted_by, refused_by, first_then}
-use Rattle.reading.specs.Reading.{sheet_tests, read_of}
-use Rattle.reading.specs.Reading.{Reading}
+use Rattle.plan.specs.Tests.{test, first_broken, Unbroken, First}
+use Rattle.plan.proofs.Numbers.{accepted_by, refused_by, first_found, first_then}
+use Rattle.reading.specs.Reading.{Reading, sheet_tests, reading_as, read_of}
 use Rattle.reading.proofs.Decided.{read_number_is, read_refused}
 use Rattle.writing.specs.Writing.{written_of, bytes_after}
 use Rattle.writing.specs.Writing.{Written}
@@ -30,6 +35,15 @@ zeros_encoded : encode_plan zero_plan ≡ replicate plan_bytes 0
 unfolding encode_plan big_endian
 zeros_encoded = refl
 
+-- The number and the plan of what was read.
+number_is : (r : Result Plan Refusal) → number_in r ≡ (reading_as r).number
+number_is (Ok p) = refl
+number_is (Err e) = rw (above_zero e).1 refl
+
+plan_is : (r : Result Plan Refusal) → result_unwrap_or r zero_plan ≡ (reading_as r).plan
+plan_is (Ok q) = refl
+plan_is (Err e) = rw (above_zero e).1 refl
+
 module _ (sheet buffer : List ℕ) where
   pub buffer_short : length buffer < plan_bytes
       → (read_number sheet buffer ≡ cond (eqb (read_of sheet).number 0) 12 (read_of sheet).number) × (plan_after sheet buffer ≡ buffer)
@@ -41,6 +55,26 @@ module _ (sheet buffer : List ℕ) where
       → (read_number sheet buffer ≡ (read_of sheet).number) × (plan_after sheet buffer ≡ encode_plan (read_of sheet).plan ++ drop plan_bytes buffer)
   unfolding read_number plan_after
   buffer_long h = rw (le-ltb (length buffer) plan_bytes h) (sym (read_number_is sheet), refl)
+
+  -- What comes of what was read.
+  pub short_kept : length buffer < plan_bytes → buffer ≡ plan_after sheet buffer
+  short_kept h = sym (buffer_short h).1
+
+  pub short_read : (read_of sheet).number ≡ 0 → length buffer < plan_bytes → 12 ≡ read_number sheet buffer
+  short_read e h = sym ((buffer_short h).0 ∙ rw e refl)
+
+  pub read_refuses : (r : Refusal) → reading_as (Err r) ≡ read_of sheet → refusal_number r ≡ read_number sheet buffer
+  unfolding read_number
+  read_refuses r e =
+      let n : refusal_number r ≡ first_broken (sheet_tests sheet) = number_is (Err r) ∙ ap (λ (x : Reading). x.number) e ∙ read_number_is sheet in
+      n ∙ sym (first_found (sheet_tests sheet) (test 12 (ltb (length buffer) plan_bytes) ∷ []) (λ z. numbered r (n ∙ z)))
+
+  pub read_accepts : (read_of sheet).number ≡ 0 → plan_bytes ≤ length buffer → 0 ≡ read_number sheet buffer
+  read_accepts e h = sym ((buffer_long h).0 ∙ e)
+
+  pub plan_written : (r : Result Plan Refusal) → reading_as r ≡ read_of sheet → plan_bytes ≤ length buffer
+      → encode_plan (result_unwrap_or r zero_plan) ++ drop plan_bytes buffer ≡ plan_after sheet buffer
+  plan_written r e h = sym ((buffer_long h).1 ∙ rw (← e, ← plan_is r) refl)
 
   sheet_accepted : (read_number sheet buffer ≡ 0) ↔ Every Unbroken (read_call_tests sheet buffer)
   unfolding read_number
@@ -86,3 +120,6 @@ module _ (sheet buffer : List ℕ) where
         let clean : (read_of sheet).plan ≡ cleaned_plan (read_of sheet).plan = ap (λ (x : Reading). x.plan) (sym (ap read_of same) ∙ again) in
         rw (plan_read e) (sym clean);
   }
+
+-- What the reader goes by.
+pub ruleset read_steps = (short_kept, short_read, read_refuses, read_accepts, plan_written)

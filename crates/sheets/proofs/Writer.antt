@@ -10,15 +10,20 @@ use lib.Dec.{ltb, eqb}
 use lib.ListN.{length, drop, replicate, length-replicate}
 use lib.Seq.{drop_at}
 use borrow.Author.Tests.{ne_eqb, lt-ltb, le-ltb, ltb-true, ltb-false}
+use Rattle.std.specs.Prelude.{Result, Ok, Err}
+use Rattle.std.specs.Result.{result_unwrap_or}
 use Rattle.theory.specs.Sums.{Every, more}
+use Rattle.theory.specs.declared.Refusal.{Refusal}
+use Rattle.theory.specs.declared.Refusal.TheVariants.{Store}
+use Rattle.theory.specs.Refusals.{refusal_number, number_in, refused_when}
+use Rattle.theory.proofs.Refusals.{numbered, above_zero}
 use Rattle.theory.proofs.Every.{every_split}
 use Rattle.numbers.specs.Numbers.{big_endian}
 use Rattle.plan.specs.declared.Plan.{Plan}
 use Rattle.plan.specs.Plan.{cleaned_plan}
 use Rattle.plan.specs.Tests.{Test, test, first_broken, Unbroken, First}
 use Rattle.plan.proofs.Numbers.{no_number, accepted_by, refused_by, number_never, first_found, first_none, first_then}
-use Rattle.writing.specs.Writing.{length_of, sheet_fields, plan_tests, writer_tests, written_of, bytes_after}
-use Rattle.writing.specs.Writing.{Written}
+use Rattle.writing.specs.Writing.{Written, length_of, sheet_fields, plan_tests, writer_tests, written_as, written_of, bytes_after}
 use Rattle.writing.proofs.Accepted.{written_number, bytes_refused}
 use Rattle.writing.proofs.Cleaned.{ignores_unused}
 use Rattle.writing.proofs.Theorems.{written_sheet, written_longest, rest_kept, nothing_written as refused-writes}
@@ -30,6 +35,15 @@ use Rattle.numbers.proofs.Numbers.{length-big_endian, read_front}
 zero_bytes : big_endian length_bytes 0 ≡ replicate length_bytes 0
 unfolding big_endian
 zero_bytes = refl
+
+-- The number and the length of what was written.
+number_is : (r : Result ℕ Refusal) → number_in r ≡ (written_as r).number
+number_is (Ok n) = refl
+number_is (Err e) = rw (above_zero e).1 refl
+
+length_is : (r : Result ℕ Refusal) → result_unwrap_or r 0 ≡ (written_as r).length
+length_is (Ok n) = refl
+length_is (Err e) = rw (above_zero e).1 refl
 
 module _ (plan sheet answer : List ℕ) where
   abbrev p : Plan
@@ -70,6 +84,54 @@ module _ (plan sheet answer : List ℕ) where
   unfolding write_number sheet_after length_after written_of bytes_after
   long_enough h k =
       rw (le-ltb (length plan) plan_bytes h, le-ltb (length answer) length_bytes k) (sym (written_number p (length sheet)), refl, refl)
+
+  -- What comes of a plan of too few bytes.
+  pub plan_twelve : (r : Refusal) → Err r ≡ refused_when Store (ltb (length plan) plan_bytes) → refusal_number r ≡ write_number plan sheet answer
+  unfolding write_number
+  plan_twelve r = twelve (ltb (length plan) plan_bytes) _
+    where
+      twelve : (b : Bool) (n : ℕ) → Err r ≡ refused_when Store b → refusal_number r ≡ cond b 12 n
+      twelve true n e = cc
+      twelve false n e = cc
+
+  module _ (h : length plan < plan_bytes) where
+    pub plan_sheet : sheet ≡ sheet_after plan sheet answer
+    plan_sheet = sym (plan_short h).1
+
+    pub plan_answer : answer ≡ length_after plan sheet answer
+    plan_answer = sym (plan_short h).2
+
+  -- What comes of the writer's answer.
+  module _ (h : plan_bytes ≤ length plan) where
+    pub plan_refuses : (r : Refusal) → refusal_number r ≡ first_broken (plan_tests p) → refusal_number r ≡ write_number plan sheet answer
+    unfolding write_number
+    plan_refuses r e =
+        rw (le-ltb (length plan) plan_bytes h)
+        (e ∙ sym (first_found (plan_tests p) (test 12 (ltb (length answer) length_bytes) ∷ last ∷ []) (λ z. numbered r (e ∙ z))))
+
+    module _ (k : length answer < length_bytes) where
+      pub answer_twelve : first_broken (plan_tests p) ≡ 0 → 12 ≡ write_number plan sheet answer
+      answer_twelve e = sym ((answer_short h k).0 ∙ rw e refl)
+
+      pub answer_sheet : sheet ≡ sheet_after plan sheet answer
+      answer_sheet = sym (answer_short h k).1
+
+      pub answer_answer : answer ≡ length_after plan sheet answer
+      answer_answer = sym (answer_short h k).2
+
+    module _ (k : length_bytes ≤ length answer) where
+      pub sheet_refuses : (r : Refusal) → written_as (Err r) ≡ written_of p (length sheet) → refusal_number r ≡ write_number plan sheet answer
+      sheet_refuses r e = number_is (Err r) ∙ ap (λ (x : Written). x.number) e ∙ sym (long_enough h k).0
+
+      pub sheet_accepts : (written_of p (length sheet)).number ≡ 0 → 0 ≡ write_number plan sheet answer
+      sheet_accepts e = sym ((long_enough h k).0 ∙ e)
+
+      pub sheet_written : bytes_after p sheet ≡ sheet_after plan sheet answer
+      sheet_written = sym (long_enough h k).1
+
+      pub length_written : (r : Result ℕ Refusal) → written_as r ≡ written_of p (length sheet)
+          → big_endian length_bytes (result_unwrap_or r 0) ++ drop length_bytes answer ≡ length_after plan sheet answer
+      length_written r e = sym ((long_enough h k).2 ∙ rw (← e, ← length_is r) refl)
 
   -- One of the three is the case.
   by_lengths : {P : Type 0} → (length plan < plan_bytes → P) → (plan_bytes ≤ length plan → length answer < length_bytes → P)
@@ -170,6 +232,9 @@ module _ (plan sheet answer : List ℕ) where
         (λ h k. absurd (by_fifteen 12 (omega arith) (eqb (first_broken (plan_tests p)) 0) (sym (answer_short h k).0 ∙ e)))
         (λ h k. on_fifteen (sym (long_enough h k).0 ∙ e));
   }
+
+-- What the writer goes by.
+pub ruleset write_steps = (plan_twelve, plan_sheet, plan_answer, answer_twelve, answer_sheet, answer_answer, sheet_refuses, sheet_accepts, sheet_written, length_written)
 
 -- ---- unused places
 

@@ -3,13 +3,9 @@ use Prim.Native.Nat.{ℕ, suc, ◌-◌, ◌<◌}
 use mathlib.Core.Path.{◌≡◌, refl}
 use mathlib.Core.Bool.{Bool, true, false, cond}
 use native.Mathlib.Omega.{arith}
-use borrow.Author.Tests.{ne_eqb}
-use lib.Dec.{eqb}
-use Rattle.std.specs.Prelude.{Result, Ok, Err}
-use Rattle.std.specs.Result.{result_err}
-use Rattle.std.specs.Option.{unwrap_or}
+use Rattle.std.specs.Prelude.{Ok}
 use Rattle.theory.specs.declared.Refusal.{Refusal}
-use Rattle.theory.specs.declared.Refusal.TheVariants.{Length, Store}
+use Rattle.theory.specs.declared.Refusal.TheVariants.{Length}
 use Rattle.theory.specs.Refusals.{refusal_number, number_in, refused_when}
 
 -- No refusal has the number 0.
@@ -32,8 +28,3 @@ number_when r false = refl
 pub passed : (r : Refusal) (b : Bool) {x : Unit {0}} → Ok x ≡ refused_when r b → b ≡ false
 passed r true e = cc
 passed r false e = refl
-
--- The refusal of an answer, or else 12.
-pub or_store : {A : Type 0} (r : Result A Refusal) → refusal_number (unwrap_or (result_err r) Store) ≡ cond (eqb (number_in r) 0) 12 (number_in r)
-or_store (Ok x) = refl
-or_store (Err e) = rw (ne_eqb (refusal_number e) 0 (omega (arith, positive e))) refl

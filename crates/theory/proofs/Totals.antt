@@ -74,7 +74,7 @@ pub total_positive : {cs : List Component} → Every (λ c. 1 ≤ c.total) cs �
 total_positive Every.none = omega arith
 total_positive (Every.more h r) = mul-pos h (total_positive r)
 
-pub thousands : (a b m n : ℕ) → a ≤ most_total ^ m → b ≤ most_total ^ n → m + n ≤ most_components → a * b < 2 ^ 64
+thousands : (a b m n : ℕ) → a ≤ most_total ^ m → b ≤ most_total ^ n → m + n ≤ most_components → a * b < 2 ^ 64
 thousands a b m n p q h =
     let l : a * b ≤ most_total ^ most_components = le_trans (mul-le-mul p q) (le_trans (le_of_eq (sym (pow-add most_total m n))) (pow-le-pow_right (omega arith) h)) in
     omega arith

@@ -1,13 +1,17 @@
-// What specs and code share of a drive: the limits, an interval with its weight, a component by value, the entries of a structure with
+// What specs and code share of a drive: the limits, an interval with its weight, a component, also one that is known to hold at most eight, the entries of a structure with
 // their codes, the joins of two speeds, and the refusals.
 #![tactic(auto)]
 
-ghost use Rattle.std.specs.Prelude.{◌≡◌, ◌<◌};
+ghost use Rattle.std.specs.Prelude.{◌≡◌, ◌≤◌, ◌<◌};
 ghost use Rattle.theory.specs.Codes.{entry_of, code_of};
 ghost use Rattle.theory.specs.Focal.{focal_at};
 ghost use Rattle.theory.specs.Joins.{joined};
 ghost use Rattle.theory.specs.Limits.{most_held};
 ghost use Rattle.theory.specs.Refusals.{number_in, refusal_number, refused_when};
+
+mod held;
+
+pub use held::HeldComponent;
 
 // The limits: specs/Limits.antt has them with document 01's words.
 pub const TOP_SPEED: u16 = 4095;
@@ -69,6 +73,16 @@ impl Component {
             high: self.highs[i],
             weight: u64::from(self.weights[i]),
         }
+    }
+}
+
+impl<'a> HeldComponent<'a> {
+    // This component, which holds at most eight.
+    pub fn new(component: &'a Component) -> HeldComponent<'a>
+        requires { component.now.count ≤ most_held }
+        ensures { result.component ≡ component.entry }
+    {
+        HeldComponent { component }
     }
 }
 

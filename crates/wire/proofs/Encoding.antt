@@ -16,10 +16,10 @@ use Rattle.wire.specs.Wire.{number_bytes, encode_numbers, with_numbers, componen
 pub encode_append : (xs ys : List ℕ) → encode_numbers (xs ++ ys) ≡ encode_numbers xs ++ encode_numbers ys
 encode_append = for_each-append (big_endian number_bytes)
 
--- Numbers put in where xs end stand behind xs.
-pub numbers_placed : {s t e xs : List ℕ} {k m : ℕ} (i : ℕ) (ns : List ℕ) → Placed s k m xs t → number_bytes * i ≡ m → number_bytes * (i + length ns) ≤ length t
-    → length e ≡ length t → e ≡ with_numbers t i (length ns) ns → Placed s k (number_bytes * (i + length ns)) (xs ++ encode_numbers ns) e
-numbers_placed i ns p a b l q = placed_next (number_bytes * i) (number_bytes * (i + length ns)) (encode_numbers ns) p a (omega arith) b l q
+-- n numbers put in where xs end stand behind xs.
+pub numbers_placed : {s t e xs : List ℕ} {k m : ℕ} (i n : ℕ) (ns : List ℕ) → Placed s k m xs t → number_bytes * i ≡ m → number_bytes * (i + n) ≤ length t
+    → length e ≡ length t → e ≡ with_numbers t i n ns → Placed s k (number_bytes * (i + n)) (xs ++ encode_numbers ns) e
+numbers_placed i n ns p a b l q = placed_next (number_bytes * i) (number_bytes * (i + n)) (encode_numbers ns) p a (omega arith) b l q
 
 -- The parts of a component one behind the other.
 pub component_parts : (c : Component)

@@ -1,10 +1,12 @@
 // What C hosts pass as bytes, most significant first: a plan, as numbers of 16 bits at fixed places; the demands of a set, 32 bits each.
+// Where a number is cast there is no `From`, and the check proves that nothing is lost.
 #![tactic(auto)]
 
 ghost use Rattle.std.specs.Prelude.{◌≡◌, ◌++◌, ◌+◌, ◌*◌, ◌≤◌, length, drop};
+ghost use Rattle.theory.specs.Limits.{most_entries};
 ghost use Rattle.wire.specs.Wire.{number_bytes, component_size, plan_bytes, number_in, numbers_in, decode_component, components_in, decode_plan};
 ghost use Rattle.wire.specs.Wire.{with_numbers, component_numbers_of, encode_plan};
-ghost use Rattle.wire.specs.Demands.{demand_bytes, demand_count, demand_at, demands_in};
+ghost use Rattle.wire.specs.Demands.{demand_count, demands_in};
 
 use plan::Plan;
 use std::array;
@@ -19,7 +21,7 @@ const ENTRIES_START: usize = 1 + COMPONENT_SIZE * MOST_COMPONENTS;
 
 pub const PLAN_BYTES: usize = NUMBER_BYTES * (ENTRIES_START + MOST_ENTRIES);
 
-// Number i.
+// Number i. Buffer and place are two parameters here and below, as the two of `s[i]`: a struct of them would say no more.
 fn number_in(s: &[u8], i: usize) -> u16
     requires { number_bytes * (i + 1) ≤ length s.now }
     ensures { result ≡ number_in s.now i }
@@ -27,7 +29,7 @@ fn number_in(s: &[u8], i: usize) -> u16
     numbers::read_number(s, NUMBER_BYTES * i, NUMBER_BYTES) as u16
 }
 
-// The N numbers from number i on.
+// The N numbers from number i on. Of 16 bits: a function for any width would answer 64 bits, and each caller would cast them.
 fn numbers_in<const N: usize>(s: &[u8], i: usize) -> [u16; N]
     requires { number_bytes * (i + N) ≤ length s.now }
     ensures { result ≡ numbers_in s.now i N }
@@ -70,14 +72,13 @@ pub fn decode_plan(s: &[u8]) -> Plan
     }
 }
 
-// Writes numbers from number i on.
-fn encode_numbers(out: &mut [u8], i: usize, ns: &[u16])
-    requires { number_bytes * (i + length ns.now) ≤ length out.old }
-    ensures { out.new ≡ with_numbers out.old i (length ns.now) ns.now }
+// Writes the N numbers from number i on. `few`: the row is copied as numbers of 64 bits, and the copy has to fit memory.
+fn encode_numbers<const N: usize>(out: &mut [u8], i: usize, ns: [u16; N])
+    requires few { N ≤ most_entries }
+    requires in_bounds { number_bytes * (i + N) ≤ length out.old }
+    ensures { out.new ≡ with_numbers out.old i N ns.entry }
 {
-    for (j, n) in ns.iter().enumerate() {
-        numbers::write_number(out, NUMBER_BYTES * (i + j), NUMBER_BYTES, u64::from(*n));
-    }
+    numbers::write_numbers(out, NUMBER_BYTES * i, NUMBER_BYTES, &ns.map(u64::from));
 }
 
 // Writes a component from number i on.
@@ -86,10 +87,10 @@ fn encode_component(out: &mut [u8], i: usize, c: &Component)
     ensures { out.new ≡ with_numbers out.old i component_size (component_numbers_of c.now) }
 {
     numbers::write_number(out, NUMBER_BYTES * i, NUMBER_BYTES, c.count as u64);
-    encode_numbers(out, i + 1, &[c.total]);
-    encode_numbers(out, i + 2, &c.lows);
-    encode_numbers(out, i + 2 + MOST_HELD, &c.highs);
-    encode_numbers(out, i + 2 + 2 * MOST_HELD, &c.weights);
+    encode_numbers(out, i + 1, [c.total]);
+    encode_numbers(out, i + 2, c.lows);
+    encode_numbers(out, i + 2 + MOST_HELD, c.highs);
+    encode_numbers(out, i + 2 + 2 * MOST_HELD, c.weights);
 }
 
 // Writes a plan at the front of out.
@@ -101,12 +102,12 @@ pub fn encode_plan(out: &mut [u8], p: Plan)
     for (i, c) in p.components.iter().enumerate() {
         encode_component(out, 1 + COMPONENT_SIZE * i, c);
     }
-    encode_numbers(out, ENTRIES_START, &p.entries);
+    encode_numbers(out, ENTRIES_START, p.entries);
 }
 
 const DEMAND_BYTES: usize = 4;
 
-// How many demands so many bytes are: none where they are not 4 times 1 to 16.
+// How many demands so many bytes are: none where they are not 4 times 1 to 16. No `Option`: a set of none is refused by the test of a set, 17.
 fn demand_count(bytes: usize) -> usize
     ensures { result ≡ demand_count bytes }
 {
@@ -117,14 +118,6 @@ fn demand_count(bytes: usize) -> usize
     }
 }
 
-// Demand i.
-fn demand_in(s: &[u8], i: usize) -> u32
-    requires { demand_bytes * (i + 1) ≤ length s.now }
-    ensures { result ≡ demand_at s.now i }
-{
-    numbers::read_number(s, DEMAND_BYTES * i, DEMAND_BYTES) as u32
-}
-
 // The demands that the bytes spell, in a row that is lent for them.
 #[tactic(auto, using(crate::proofs::Decoding::filled_next))]
 pub fn decode_demands<'a>(s: &[u8], room: &'a mut [u32; MOST_DEMANDS]) -> &'a [u32]
@@ -132,7 +125,7 @@ pub fn decode_demands<'a>(s: &[u8], room: &'a mut [u32; MOST_DEMANDS]) -> &'a [u
 {
     let demands = &mut room[..demand_count(s.len())];
     for (i, demand) in demands.iter_mut().enumerate() {
-        *demand = demand_in(s, i);
+        *demand = numbers::read_number(s, DEMAND_BYTES * i, DEMAND_BYTES) as u32;
     }
     demands
 }

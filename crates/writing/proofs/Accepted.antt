@@ -8,19 +8,19 @@ use Prim.Native.Nat.{ℕ, zero, suc, ◌≤◌, ◌<◌}
 use native.Mathlib.Omega.{arith}
 use lib.Dec.{ltb}
 use lib.ListN.{length}
-use Rattle.std.specs.Prelude.{Ok, Err}
+use Rattle.std.specs.Prelude.{Err}
 use Rattle.theory.specs.Sums.{Every, none, more}
 use Rattle.theory.specs.declared.Refusal.{Refusal}
 use Rattle.theory.specs.declared.Refusal.TheVariants.{SheetRoom}
 use Rattle.theory.specs.Refusals.{refusal_number, number_in, refused_when}
-use Rattle.theory.proofs.Refusals.{numbered, number_when, passed}
+use Rattle.theory.proofs.Refusals.{positive, numbered, number_when, passed}
 use Rattle.field.specs.Fields.{put_all}
 use Rattle.field.specs.declared.Field.{Field}
 use Rattle.plan.specs.declared.Plan.{Plan}
 use Rattle.plan.specs.Tests.{test, first_broken, Unbroken, First}
 use Rattle.plan.specs.Plan.{components_of}
 use Rattle.plan.specs.Rules.{rule3, rule4, rules, Sized}
-use Rattle.writing.specs.Writing.{Written, number_of, length_of, sheet_fields, plan_tests, writer_tests, written, written_as, written_of, bytes_by, bytes_after}
+use Rattle.writing.specs.Writing.{number_of, length_of, sheet_fields, plan_tests, writer_tests, written, written_as, written_of, bytes_by, bytes_after}
 use Rattle.plan.proofs.Numbers.{no_number, none_broken, accepted_by, refused_by, first_found, first_none}
 use Rattle.plan.proofs.Valid.{all_held, sized}
 
@@ -73,21 +73,21 @@ module _ (p : Plan) (room : ℕ) where
   written_length e = rw e
 
 -- A number other than 0 is answered with length 0, and nothing is written.
-pub refused_length : (p : Plan) (room : ℕ) → (number_of p room ≡ 0 → ⊥) → (written_of p room).length ≡ 0
+pub refused_length : (p : Plan) (room : ℕ) → 0 < number_of p room → (written_of p room).length ≡ 0
 unfolding written_of
 refused_length p room = go (number_of p room)
   where
-    go : (k : ℕ) → (k ≡ 0 → ⊥) → (written k (length_of p)).length ≡ 0
-    go zero h = absurd (h refl)
+    go : (k : ℕ) → 0 < k → (written k (length_of p)).length ≡ 0
+    go zero h = absurd (omega arith)
     go (suc k) h = refl
 
 pub bytes_refused : (k : ℕ) (s : List ℕ) (fs : List Field) → (k ≡ 0 → ⊥) → bytes_by k s fs ≡ s
 bytes_refused zero s fs h = absurd (h refl)
 bytes_refused (suc k) s fs h = refl
 
-pub refused_stays : (p : Plan) (s : List ℕ) → (number_of p (length s) ≡ 0 → ⊥) → bytes_after p s ≡ s
+pub refused_stays : (p : Plan) (s : List ℕ) → 0 < number_of p (length s) → bytes_after p s ≡ s
 unfolding bytes_after
-refused_stays p s = bytes_refused (number_of p (length s)) s (sheet_fields p)
+refused_stays p s h = bytes_refused (number_of p (length s)) s (sheet_fields p) (λ z. omega arith)
 
 pub accepted_bytes : (p : Plan) (s : List ℕ) → number_of p (length s) ≡ 0 → bytes_after p s ≡ put_all s 0 (sheet_fields p)
 unfolding bytes_after
@@ -124,24 +124,4 @@ module _ (p : Plan) where
 -- What the tests of a plan go by, and those of a plan and a buffer.
 pub ruleset kept_tests = (passed, all_held)
 
-pub ruleset deciding_tests = (answered_refused, plan_decides, is_sized, room_decides, written_length)
-
--- What the answer says of the bytes s: a refusal leaves them, and a length is that of a plan that is accepted.
-pub refused_kept : (p : Plan) (s : List ℕ) (r : Refusal) → written_as (Err r) ≡ written_of p (length s) → s ≡ bytes_after p s
-refused_kept p s r e =
-    let n : refusal_number r ≡ number_of p (length s) =
-    sym (number_written (refusal_number r) 0) ∙ ap (λ (w : Written). w.number) e ∙ written_number p (length s) in
-    sym (refused_stays p s (λ z. numbered r (n ∙ z)))
-
-pub record Answered (p : Plan) (s : List ℕ) (len : ℕ) : Type 0 where
-  pub has_size : Sized p
-  pub len_is : len ≡ length_of p
-  pub fits : len ≤ length s
-  pub bytes : put_all s 0 (sheet_fields p) ≡ bytes_after p s
-
-pub length_answered : (p : Plan) (s : List ℕ) (len : ℕ) → written_as (Ok len) ≡ written_of p (length s) → Answered p s len
-length_answered p s len e =
-    let none : number_of p (length s) ≡ 0 = sym (ap (λ (w : Written). w.number) e ∙ written_number p (length s)) in
-    let l : len ≡ length_of p = ap (λ (w : Written). w.length) (e ∙ written_length p (length s) none) in
-    let a = number_accepts p (length s) none in
-    record { has_size = sized p a.three a.four; len_is = l; fits = omega (arith, l, a.fits); bytes = sym (accepted_bytes p s none) }
+pub ruleset deciding_tests = (answered_refused, plan_decides, room_decides, written_length, refused_stays, accepted_bytes, positive)

@@ -68,7 +68,7 @@ pub nothing_written : (p : Plan) (s : List ℕ) (k : ℕ) → 0 < k → (written
     → ((written_of p (length s)).length ≡ 0) × (bytes_after p s ≡ s)
 nothing_written p s k h e =
     let n : number_of p (length s) ≡ k = sym (written_number p (length s)) ∙ e in
-    (refused_length p (length s) (λ z. omega arith), refused_stays p s (λ z. omega arith))
+    (refused_length p (length s) (omega arith), refused_stays p s (omega arith))
 
 pub rest_kept : (p : Plan) (s : List ℕ) → (written_of p (length s)).number ≡ 0
     → drop (written_of p (length s)).length (bytes_after p s) ≡ drop (written_of p (length s)).length s

@@ -4,4 +4,4 @@ use Rattle.bench_table.proofs.d_with.Goals as goal
 
 pub returns : goal.returns
 unfolding D1 D2 D3
-returns c = rw (c.sheet.ensures, c.single_speeds-d1.ensures, c.single_speeds-d2.ensures, c.single_speeds-d3.ensures)
+returns c = rw (c.sheet.ensures, c.single_speeds-d1.ensures, c.single_speeds-d2.ensures, c.single_speeds-d3.ensures, c.from.ensures)

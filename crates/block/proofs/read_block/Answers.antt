@@ -77,5 +77,5 @@ returns c =
     ] in
     let least : 1 ≤ count_in c.args.part.now = grind (arith, nat_tests, c.contains.ensures.value) in
     let most : count_in c.args.part.now ≤ most_held = grind (arith, nat_tests, c.contains.ensures.value) in
-    built _ _ _ _ _ _ _ _ e (zero_is h) (total_is h) c.block_size-size.ensures padding ones c.read_component.ensures
+    built _ _ _ _ _ _ _ _ e (zero_is h) (total_is h) c.size-size.ensures padding ones c.read_component.ensures
     (record { least = least; most = most; there = omega arith })

@@ -36,4 +36,4 @@ pub loop-i-preserved : goal.loop-i-preserved
 loop-i-preserved c = turn _ c.loop-i.i _ _ _ c.loop-i.invariant c.interval_place.ensures c.read_interval-f.ensures
 
 pub returns : goal.returns
-returns c = last c.args.part.now c.args.k c.args.total _ _ c.loop-i.invariant (omega arith)
+returns c = last c.args.part.now c.args.extent.count c.args.total _ _ c.loop-i.invariant (omega arith)

@@ -20,4 +20,4 @@ put_fields-requires c = search rules
 
 pub returns : goal.returns
 returns c =
-    all _ _ _ _ c.args.c _ _ _ c.interval_place.ensures c.padding_bits.ensures c.from.ensures c.put_fields.ensures c.put_intervals.ensures c.put_field.ensures
+    all _ _ _ _ c.args.c.component.now _ _ _ c.interval_place.ensures (rw c.of.ensures at c.padding_bits.ensures) c.from.ensures c.put_fields.ensures c.put_intervals.ensures c.put_field.ensures

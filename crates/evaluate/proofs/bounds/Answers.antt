@@ -6,7 +6,7 @@ use Rattle.evaluate.specs.SheetRun.{SheetRun, sheet_run, store_then}
 use Rattle.theory.proofs.Refusals.{positive}
 use Rattle.evaluate.proofs.Numbers.{call_numbered, store_is}
 use Rattle.evaluate.proofs.Demands.{AcceptedCall, Called, refuses, accepts, answer_by}
-use Rattle.evaluate.proofs.Asked.{called, inside, summable, answer_asked}
+use Rattle.evaluate.proofs.Asked.{called, summable, answer_asked}
 use Rattle.evaluate.proofs.bounds.Goals as goal
 
 -- Past tests and run.
@@ -36,25 +36,19 @@ returns-in_err-r-clause-store_after c =
     let e = c.in_err-r.ensures in
     stored a.sheet.now a.allowance a.store.now e.value e.store_after
 
-pub new-list-requires : goal.new-list-requires
-new-list-requires c =
-    let a = c.args in
-    let e = c.in_ok-r.ensures in
-    inside (accepted a.sheet.now a.allowance a.store.now e.value e.store_after refl)
-
 pub shares_at-requires : goal.shares_at-requires
 shares_at-requires c =
     let a = c.args in
     let e = c.in_ok-r.ensures in
     let call = accepted a.sheet.now a.allowance a.store.now e.value e.store_after refl in
-    summable call c.new-list.result c.new-list.ensures refl
+    summable call c.new-list.ensures.inside
 
 pub returns-clause-value : goal.returns-clause-value
 returns-clause-value c =
     let a = c.args in
     let e = c.in_ok-r.ensures in
     let call = accepted a.sheet.now a.allowance a.store.now e.value e.store_after refl in
-    answer_asked call c.new-list.result c.new-list.ensures refl a.demand (rw (← c.from.ensures) c.shares_at.ensures) c.with_shares.ensures
+    answer_asked call c.new-list.ensures.inside a.demand (rw (← c.from.ensures) c.shares_at.ensures) c.with_shares.ensures
     ∙ sym (answer_by a.sheet.now a.demand a.allowance a.store.now a.demand refl)
 
 pub returns-clause-store_after : goal.returns-clause-store_after

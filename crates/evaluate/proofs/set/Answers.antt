@@ -9,7 +9,7 @@ use Rattle.theory.proofs.Refusals.{positive}
 use Rattle.evaluate.proofs.Numbers.{set_numbered, set_answer_is, set_store_is}
 use Rattle.evaluate.proofs.Demands.{AcceptedCall, Called, refuses, accepts}
 use Rattle.evaluate.proofs.SetMet.{shares_by_end}
-use Rattle.evaluate.proofs.Asked.{called, inside, summable, shares_asked}
+use Rattle.evaluate.proofs.Asked.{called, summable, shares_asked}
 use Rattle.evaluate.proofs.set.Goals as goal
 
 -- Past tests and run.
@@ -52,18 +52,12 @@ returns-in_err-r-clause-shares_after c =
     let e = c.in_err-r.ensures in
     kept a.sheet.now a.demands.now a.allowance a.store.now a.shares.now c.test_demands-own.ensures e.value e.store_after _ (positive _) refl
 
-pub new-list-requires : goal.new-list-requires
-new-list-requires c =
-    let a = c.args in
-    let e = c.in_ok-r.ensures in
-    inside (accepted a.sheet.now a.demands.now a.allowance a.store.now a.shares.now c.test_demands-own.ensures e.value e.store_after refl)
-
 pub put_set-requires-clause-summable : goal.put_set-requires-clause-summable
 put_set-requires-clause-summable c =
     let a = c.args in
     let e = c.in_ok-r.ensures in
     let call = accepted a.sheet.now a.demands.now a.allowance a.store.now a.shares.now c.test_demands-own.ensures e.value e.store_after refl in
-    summable call c.new-list.result c.new-list.ensures refl
+    summable call c.new-list.ensures.inside
 
 pub returns-clause-value : goal.returns-clause-value
 returns-clause-value c =
@@ -83,5 +77,5 @@ returns-clause-shares_after c =
     let e = c.in_ok-r.ensures in
     let call = accepted a.sheet.now a.demands.now a.allowance a.store.now a.shares.now c.test_demands-own.ensures e.value e.store_after refl in
     c.put_set.ensures
-    ∙ (shares_asked call c.new-list.result c.new-list.ensures refl a.demands.now a.shares.now
+    ∙ (shares_asked call c.new-list.ensures.inside a.demands.now a.shares.now
     ∙ sym (shares_by_end a.sheet.now a.demands.now a.allowance a.store.now a.shares.now refl))

@@ -9,7 +9,7 @@ use Rattle.theory.proofs.Refusals.{positive}
 use Rattle.evaluate.proofs.Numbers.{speed_numbered, speed_store_is}
 use Rattle.evaluate.proofs.Demands.{AcceptedCall, Called, refuses, accepts}
 use Rattle.evaluate.proofs.SpeedMet.{answer_by}
-use Rattle.evaluate.proofs.Asked.{called, inside, summable, searchable, speed_asked}
+use Rattle.evaluate.proofs.Asked.{called, summable, searchable, speed_asked}
 use Rattle.evaluate.proofs.speed.Goals as goal
 
 -- Past tests and run.
@@ -39,32 +39,26 @@ returns-in_err-r-clause-store_after c =
     let e = c.in_err-r.ensures in
     stored a.sheet.now a.target a.allowance a.store.now c.test_target.ensures e.value e.store_after
 
-pub new-list-requires : goal.new-list-requires
-new-list-requires c =
-    let a = c.args in
-    let e = c.in_ok-r.ensures in
-    inside (accepted a.sheet.now a.target a.allowance a.store.now c.test_target.ensures e.value e.store_after refl)
-
 pub speed_for-speed-requires : goal.speed_for-speed-requires
 speed_for-speed-requires c =
     let a = c.args in
     let e = c.in_ok-r.ensures in
     let call = accepted a.sheet.now a.target a.allowance a.store.now c.test_target.ensures e.value e.store_after refl in
-    searchable call c.new-list.result c.new-list.ensures refl
+    searchable call c.new-list.ensures.inside
 
 pub shares_at-requires : goal.shares_at-requires
 shares_at-requires c =
     let a = c.args in
     let e = c.in_ok-r.ensures in
     let call = accepted a.sheet.now a.target a.allowance a.store.now c.test_target.ensures e.value e.store_after refl in
-    summable call c.new-list.result c.new-list.ensures refl
+    summable call c.new-list.ensures.inside
 
 pub returns-clause-value : goal.returns-clause-value
 returns-clause-value c =
     let a = c.args in
     let e = c.in_ok-r.ensures in
     let call = accepted a.sheet.now a.target a.allowance a.store.now c.test_target.ensures e.value e.store_after refl in
-    speed_asked call c.new-list.result c.new-list.ensures refl a.target c.speed_for-speed.ensures c.shares_at.ensures c.with_shares.ensures
+    speed_asked call c.new-list.ensures.inside a.target c.speed_for-speed.ensures c.shares_at.ensures c.with_shares.ensures
     ∙ sym (answer_by a.sheet.now a.target a.allowance a.store.now refl)
 
 pub returns-clause-store_after : goal.returns-clause-store_after

@@ -1,5 +1,5 @@
 -- `joins::join_sized` meets its contract: the operands are copied out, the join fills the rest of the store. Assumes nothing.
-use Rattle.std.proofs.Common.{◌≡◌, ap, ◌∙◌, Option, ok_or, List, [], ℕ}
+use Rattle.std.proofs.Common.{◌≡◌, ap, ◌∙◌, Option, ok_or, List, [], ℕ, arith}
 use Rattle.theory.specs.declared.Focal.{Focal}
 use Rattle.theory.specs.declared.Refusal.TheVariants.{ListLength}
 use Rattle.theory.specs.Joins.{pairs}
@@ -7,9 +7,9 @@ use Rattle.theory.specs.Order.{collect}
 use Rattle.theory.specs.Refusals.{number_in}
 use Rattle.numbers.proofs.Numbers.{part_rest}
 use Rattle.records.specs.Records.{records_of}
-use Rattle.records.specs.Store.{holding}
+use Rattle.records.specs.Store.{list_of_span, holding}
 use Rattle.joins.specs.Filling.{fill}
-use Rattle.joins.specs.Joins.{list_of_span, pairs_in, join_in, join_length, joined_as}
+use Rattle.joins.specs.Joins.{pairs_in, join_in, join_length, joined_as}
 use Rattle.joins.proofs.Rest.{copied, rest_lent}
 use Rattle.joins.proofs.Answer.{joined, joined-number, joined-length}
 use Rattle.joins.proofs.join_sized.Given.{Over}
@@ -22,9 +22,9 @@ pairs_are : (g : Over) (c : After-new-2 g)
 pairs_are g c =
     let j = c.requires.joinable in
     let a : records_of c.new.result ≡ list_of_span c.args.store.now c.args.left =
-    copied c.args.store.now _ _ c.args.left c.new.result j.first c.copy_from_slice.ensures.after (λ k. (c.new.ensures.0 k).now) c.new.ensures.1 in
+    c.new.ensures.inside (omega arith) ∙ copied c.args.store.now _ _ c.args.left j.first c.copy_from_slice.ensures.after in
     let b : records_of c.new-2.result ≡ list_of_span c.args.store.now c.args.right =
-    copied c.args.store.now _ _ c.args.right c.new-2.result j.second c.copy_from_slice-2.ensures.after (λ k. (c.new-2.ensures.0 k).now) c.new-2.ensures.1 in
+    c.new-2.ensures.inside (omega arith) ∙ copied c.args.store.now _ _ c.args.right j.second c.copy_from_slice-2.ensures.after in
     λ k. pairs c.args.op (a k) (b k)
 
 pub join_lists-requires-clause-fits : goal.join_lists-requires-clause-fits

@@ -10,7 +10,8 @@ abbrev pub invariant-loop-i : goal.invariant-loop-i
 invariant-loop-i l =
     let s : List Focal = collected l.c l.i in
     record {
-      held : Held l.initial.out l.out l.count s;
+      held : Held l.initial.out.bytes.now l.out.bytes.now l.out.count s;
       sum : weights s ≤ 65535 * (l.c.count - l.i);
       left : l.rest ≡ l.initial.rest - weights s;
+      same_reference : l.out.bytes.ghost_name ≡ l.initial.out.bytes.ghost_name;
     }

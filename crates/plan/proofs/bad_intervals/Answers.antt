@@ -9,6 +9,6 @@ use Rattle.plan.proofs.bad_intervals.Goals as goal
 
 pub returns : goal.returns
 returns c =
-    let d = c.args.c.now in
+    let d = c.args.c.component.now in
     any_from_yields_List (bad_interval d) _ _ c.any.result c.any.ensures.ran (YieldsList-from_range 0 d.count d.count refl (omega arith)) (λ x b q k. search (rules, tests))
     ∙ any_range (bad_interval d) d.count

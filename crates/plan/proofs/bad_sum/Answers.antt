@@ -1,6 +1,7 @@
 -- `plan::bad_sum` meets its contract. Assumes nothing.
 use Rattle.std.proofs.Common.{◌≡◌, ◌≤◌, refl, sym, ap, ◌∙◌, rules, arith, ◌^◌, length, take}
 use Rattle.std.specs.List.{sum_by as std_sum_by}
+use Rattle.std.proofs.lemmas.List.{length-take}
 use Rattle.std.proofs.lemmas.List.Recursion.{is_sum_by}
 use Rattle.std.proofs.lemmas.Iterator.{YieldsList-from_slice, YieldsList-from_map}
 use Rattle.std.proofs.lemmas.Iterator.Adapters.{fits_from_length, at_most_from_yields_List}
@@ -21,17 +22,17 @@ sum_is c h =
 
 pub sum-sum-requires-clause-fits : goal.sum-sum-requires-clause-fits
 sum-sum-requires-clause-fits c =
-    let d = c.args.c.now in
+    let d = c.args.c.component.now in
     fits_from_length _ _ most_held (2 ^ 64) (at_most_from_yields_List (YieldsList-from_slice (take d.count d.weights) cc) (search rules)) c.map.ensures.closure (omega arith)
     (λ x r q k. search rules)
 
 pub returns : goal.returns
 returns c =
-    let d = c.args.c.now in
+    let d = c.args.c.component.now in
     let ws = take d.count d.weights in
     let sum : c.sum-sum.result ≡ weights (listed d) =
     sum_by_from_yields_List (λ w. w) ws c.map.result c.sum-sum.result c.sum-sum.ensures.ran
     (YieldsList-from_map _ (λ w. w) (YieldsList-from_slice ws cc) c.map.ensures.closure (λ x r q k. search rules))
-    ∙ sum_is d (omega arith)
+    ∙ sum_is d (omega (arith, length-take d.count d.weights))
     in
     rw (c.from.ensures, sum)

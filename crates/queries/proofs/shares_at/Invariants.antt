@@ -4,7 +4,8 @@ use Rattle.theory.specs.Choices.{belief, plausibility}
 use Rattle.records.specs.Records.{records_of}
 use Rattle.queries.proofs.shares_at.Given as goal
 
-abbrev pub invariant-loop-i : goal.invariant-loop-i
-invariant-loop-i l =
+abbrev pub invariant-loop-r : goal.invariant-loop-r
+invariant-loop-r l =
     let list = records_of l.list in
-    (l.belief + belief l.demand (drop l.i list) ≡ belief l.demand list) × (l.plausibility + plausibility l.demand (drop l.i list) ≡ plausibility l.demand list)
+    let left = drop l.r-index list in
+    (l.belief + belief l.demand left ≡ belief l.demand list) × (l.plausibility + plausibility l.demand left ≡ plausibility l.demand list)

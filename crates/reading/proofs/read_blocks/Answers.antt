@@ -51,8 +51,8 @@ returns-in_err-b c =
     let q = found s l.component-index _ l.invariant.read c.in_err-b.ensures in
     c.from_residual.ensures ∙ sym (blocks_cut s c.args.n l.component-index (grind (arith, length-take)) (is_cut_short s l.component-index q))
 
-pub of-requires : goal.of-requires
-of-requires c =
+pub new-requires : goal.new-requires
+new-requires c =
     let s = c.args.sheet.now in
     let l = c.loop-component in
     count_fits s l.component-index c.in_ok-b.b (found s l.component-index _ l.invariant.read c.in_ok-b.ensures)
@@ -71,7 +71,7 @@ loop-component-preserved c =
     let i = l.component-index in
     let p = l.invariant.read in
     let q = found s i _ p c.in_ok-b.ensures in
-    let e = c.or-flaws.ensures ∙ ap (either_flaws l.flaws) c.of.ensures in
+    let e = c.or-flaws.ensures ∙ ap (either_flaws l.flaws) (rw c.new.ensures at c.of.ensures) in
     let a = set-append_left l.component-items (drop c.args.n (replicate most_components zero_component)) i c.in_ok-b.b.component (omega arith) in
     record {
       uncut = uncut_next s i l.invariant.uncut (cut_is s i _ q);

@@ -1,21 +1,16 @@
--- `wire::encode_numbers` meets its contract: a number is put in where those already written end. Assumes nothing.
-use mathlib.Core.Path.{◌≡◌, refl}
-use Prim.Native.Nat.{◌+◌, ◌*◌, ◌<◌}
+-- `wire::encode_numbers` meets its contract: each number is the same in 64 bits. Assumes nothing.
+use mathlib.Core.Path.{◌≡◌}
+use Prim.Native.Nat.{◌+◌, ◌*◌}
 use native.Mathlib.Omega.{arith}
-use lib.ListN.{length, get_or}
-use Rattle.numbers.specs.Numbers.{big_endian}
-use Rattle.numbers.proofs.Numbers.{placed_next}
-use Rattle.theory.proofs.Sums.{for_each_next}
+use lib.ListN.{length}
+use Rattle.std.proofs.Common.{rules}
+use Rattle.std.proofs.lemmas.List.{ext_get_or}
 use Rattle.wire.proofs.encode_numbers.Goals as goal
 
-pub loop-j-preserved : goal.loop-j-preserved
-loop-j-preserved c =
-    let j = c.loop-j.j in
-    let ns = c.args.ns.now in
-    let h : j < length ns = omega arith in
-    let k = 2 * (c.args.i + j) in
-    let e : 2 * (c.args.i + (j + 1)) ≡ k + 2 = omega arith in
-    let same : length c.write_number.new.s ≡ length c.loop-j.out = omega arith in
-    let p = placed_next k (k + 2) (big_endian 2 (get_or ns j 0)) c.loop-j.invariant refl (omega arith) (omega arith) same
-    (rw c.from.ensures at c.write_number.ensures) in
-    rw (e, for_each_next (big_endian 2) ns j 0) p
+pub returns : goal.returns
+returns g c =
+    let a = c.args in
+    let all = c.map.ensures.items in
+    let same : c.map.result ≡ a.ns = ext_get_or 0 c.map.result a.ns (omega (arith, all.long)) (λ i h. let (p, q, call) = all.at i 0 0 (omega (arith, all.long)) in search rules) in
+    let e : 2 * (a.i + g.row.N) ≡ 2 * a.i + 2 * length a.ns = omega arith in
+    rw (e, ← same) c.write_numbers.ensures

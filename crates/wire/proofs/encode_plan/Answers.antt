@@ -27,11 +27,10 @@ pub returns : goal.returns
 returns c =
     let p = c.args.p in
     let six : length p.components ≡ 6 = omega arith in
-    let eleven : length p.entries ≡ 11 = omega arith in
     let e : c.loop-i.i ≡ length p.components = omega arith in
     let p0 = placed_none c.args.out.now 0 (omega arith) in
     let p1 = placed_next 0 2 (big_endian 2 p.count) p0 refl (omega arith) (omega arith) (omega arith) c.write_number.ensures in
     let p2 = placed_next 2 314 (encode_numbers (for_each p.components component_numbers_of)) p1 refl (omega arith) (omega arith) (omega arith)
     (rw (e, take-length, six) at c.loop-i.invariant.is) in
-    let p3 = numbers_placed 157 p.entries p2 refl (omega arith) (omega arith) c.encode_numbers.ensures in
-    rw (eleven, plan_parts p) at p3.is
+    let p3 = numbers_placed 157 11 p.entries p2 refl (omega arith) (omega arith) c.encode_numbers.ensures in
+    rw (plan_parts p) at p3.is

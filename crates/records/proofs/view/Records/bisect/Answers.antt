@@ -1,18 +1,17 @@
--- `records::Records::bisect` meets its contract: the place lies between `lo` and `hi`. Assumes nothing.
-use Rattle.std.proofs.Common.{◌+◌, ◌-◌, ◌/◌, arith}
-use Rattle.records.proofs.Place.{tested_above, tested_below}
+-- `records::Records::bisect` meets its contract. Assumes nothing.
+use Rattle.std.proofs.Common.{rules}
+use Rattle.std.proofs.lemmas.List.Sorted.{IsPartitionPoint-from_clause}
+use Rattle.theory.specs.Order.{order}
+use Rattle.records.specs.Records.{head_record, keyed}
+use Rattle.records.specs.Insertion.{is_before}
+use Rattle.records.proofs.Place.{bisected}
 use Rattle.records.proofs.view.Records.bisect.Goals as goal
 
-pub loop-lo-preserved-then-precedes : goal.loop-lo-preserved-then-precedes
-loop-lo-preserved-then-precedes c =
+pub returns : goal.returns
+returns c =
     let a = c.args in
-    let l = c.loop-lo in
-    let above = tested_above a.self.now a.key (l.lo + (l.hi - l.lo) / 2) c.requires.in_order (omega arith) c.precedes.ensures c.if-precedes.true in
-    (omega (arith, above), omega arith, omega arith)
-
-pub loop-lo-preserved : goal.loop-lo-preserved
-loop-lo-preserved c =
-    let a = c.args in
-    let l = c.loop-lo in
-    let below = tested_below a.self.now a.key (l.lo + (l.hi - l.lo) / 2) (omega arith) c.precedes.ensures c.if-precedes.false in
-    (omega arith, omega (arith, below), omega arith)
+    let f = keyed a.key 0 in
+    let between = c.requires.between in
+    let found = c.partition_point.ensures in
+    bisected a.self.now.records.now f c.requires.in_order a.from a.to between.2 between.0 between.1 c.partition_point.result found.bound
+    (λ p. IsPartitionPoint-from_clause (λ r. is_before (order (head_record r) f)) _ _ found.partitioned p (λ s r q k. search rules))

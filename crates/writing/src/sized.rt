@@ -1,0 +1,12 @@
+// A plan that has a sheet's length. The struct has a file of its own: its ghost field must not lead back to what names it.
+
+ghost use Rattle.plan.specs.Rules.{Sized};
+
+use plan::Plan;
+
+// What the rules 3 and 4 leave of a plan: the places that it says to use are there.
+#[derive(Clone, Copy)]
+pub struct SizedPlan<'a> {
+    pub plan: &'a Plan,
+    ghost sized: { Sized plan.now },
+}
