@@ -5,7 +5,7 @@
 // Where a number is cast there is no `From`, and the check proves that nothing is lost.
 #![tactic(auto)]
 
-ghost use Rattle.std.specs.Prelude.{◌≡◌, ◌↔◌, IsTrue, ◌*◌, ◌<◌, ◌≤◌, [], ◌∷◌, length, slice_set};
+ghost use Rattle.std.specs.Prelude.{◌≡◌, ◌↔◌, IsTrue, ◌<◌, ◌≤◌, [], ◌∷◌, length, slice_set};
 ghost use Rattle.theory.specs.Focal.{focal};
 ghost use Rattle.theory.specs.Limits.{most_components, most_held, store_bytes};
 ghost use Rattle.records.specs.Records.{records_of};
@@ -79,6 +79,7 @@ fn component(total: u16, intervals: &[(u16, u16, u16)]) -> Component
         count: intervals.len(),
         total,
     };
+    // By place: an interval's three numbers lie in three arrays, as document 01 has them.
     for (i, (low, high, weight)) in intervals.iter().enumerate() {
         c.lows[i] = *low;
         c.highs[i] = *high;
@@ -104,7 +105,7 @@ fn single_speeds(total: u16, speeds: &[u16]) -> Component
     }
 }
 
-// The code of a join in a structure. No `From`: neither type is this crate's.
+// The code of a join in a structure. No `From`: neither type is this crate's, and only these rows ask for a join's code.
 fn code_of(join: Join) -> u16
     ensures { result ≡ join_code join }
 {
@@ -319,7 +320,7 @@ impl<'a> Call<'a> {
     }
 }
 
-// The numbers in a shares' buffer, 8 bytes each.
+// The numbers in a shares' buffer, 8 bytes each; those of a plan, in crate wire, have 2 and are cast.
 fn numbers_in(shares: &[u8; SHARES_ROOM]) -> [u64; SHARES_HELD]
     ensures { result ≡ numbers_of shares.now }
 {

@@ -49,7 +49,7 @@ fn skip_some(from: Stdin) -> bool {
     0 < read_some(from, &mut rest)
 }
 
-// Reads the input to its end, so that a writer of a pipe can finish. A `for` of so many turns: an input may have no end, and each loop has one.
+// Reads the input to its end, so that a writer of a pipe can finish. A `for` of so many turns, since an input may have no end and a loop must.
 fn skip_rest(from: Stdin) {
     for _ in 0..u64::MAX {
         if !skip_some(from) {
@@ -106,6 +106,7 @@ fn main(rt: HostRuntime) {
     let allowance = word(&input, 4);
     let mut store = [0u8; theory::STORE_BYTES];
     let answer = evaluate::bounds(&input[8..n], demand, allowance, &mut store);
+    // A refused call leaves no list.
     let count = answer.map_or(0, |a| a.intervals);
     let report = Report {
         answer,
