@@ -61,7 +61,7 @@ W0 = component_of 100 ((0, 4, 20) ∷ (3, 8, 67) ∷ (7, 10, 13) ∷ [])
 unfoldable pub W1 : Component
 W1 = component_of 100 ((0, 6, 67) ∷ (8, 10, 33) ∷ [])
 
--- "j, 8 times j, 64 times j, j from 0 to 7 (in D3 only the first so many)".
+-- "j, 8 times j, j from 0 to 7"; D3, "64 times j", has only the first so many, and stands with the rows.
 abbrev pub times : ℕ → List ℕ
 times step = map (λ j. step * j) (range_with_len 0 8)
 
@@ -70,9 +70,6 @@ D1 = single_speeds 8 (times 1)
 
 unfoldable pub D2 : Component
 D2 = single_speeds 8 (times 8)
-
-unfoldable pub D3 : ℕ → Component
-D3 count = single_speeds count (take count (times 64))
 
 -- The code of a join in a structure.
 abbrev pub join_code : Join → ℕ
@@ -143,12 +140,15 @@ refused_as (Set demands) refusal = set (Err refusal) (replicate SHARES_HELD ONES
 
 -- The length of the list in the store after an answer.
 abbrev pub intervals_of : Answer → ℕ
-intervals_of (bounds (Ok a)) = a.intervals
-intervals_of (speed (Ok a)) = a.answer.intervals
+intervals_of (bounds (Ok a)) = a.run.intervals
+intervals_of (speed (Ok a)) = a.answer.run.intervals
 intervals_of (set (Ok r) numbers) = r.intervals
 intervals_of _ = 0
 
 -- What an accepted ordinary call answers.
 abbrev pub accepted_of : ℕ → ℕ → ℕ → ℕ → ℕ → Accepted
 accepted_of total belief plausibility pairs intervals =
-    record { total = total; belief = belief; plausibility = plausibility; pairs = pairs; intervals = intervals }
+    record {
+      run = record { total = total; pairs = pairs; intervals = intervals };
+      shares = record { belief = belief; plausibility = plausibility };
+    }

@@ -1,4 +1,4 @@
-// Sheets, and calls on them. The structs have a file of their own: their ghost fields must not lead back to what names them.
+// Sheets, and calls on them. The structs have a file of their own: what their ghost fields name may not lead back to the file that declares them.
 
 ghost use Rattle.std.specs.Prelude.{◌≤◌};
 ghost use Rattle.theory.specs.Limits.{store_bytes};
@@ -14,7 +14,8 @@ pub struct Sheet {
     ghost inside: { length ≤ LONGEST },
 }
 
-// What is asked: the shares at a demand, the speed for a target, or the shares at each of some demands.
+// What is asked: the shares at a demand, the speed for a target, or the shares at each of some demands. An enum and no closure: it is printed too,
+// and decides what a refusal answers.
 #[derive(Clone, Copy)]
 pub enum Asked<'a> {
     Bounds(u32),

@@ -2,14 +2,15 @@
 // and for a set of demands: plans are written as sheets, and the answer of each call and its list, record by record, are compared with
 // the table's. Prints a line for each row, and how many rows disagree. What is printed is open in the contracts of the functions that
 // print, and so is the count of rows that disagree; every other function says what it answers.
-// Where a number is cast there is no `From`, and the check proves that nothing is lost.
+// Where a number is cast there is no `From`, a `TryFrom` would never fail, and the check proves that nothing is lost.
+// Where a slice has at most so many elements, that is a clause: each row gives a literal or a part of a constant, whose length the check sees.
 #![tactic(auto)]
 
 ghost use Rattle.std.specs.Prelude.{◌≡◌, ◌↔◌, IsTrue, ◌<◌, ◌≤◌, [], ◌∷◌, length, slice_set};
 ghost use Rattle.theory.specs.Focal.{focal};
 ghost use Rattle.theory.specs.Limits.{most_components, most_held, store_bytes};
 ghost use Rattle.records.specs.Records.{records_of};
-ghost use Rattle.bench_table.specs.Rows.{component_of, single_speeds, component_a, component_b, W0, W1, D1, D2, D3, join_code, chain, sheet_of};
+ghost use Rattle.bench_table.specs.Rows.{component_of, single_speeds, component_a, component_b, W0, W1, D1, D2, join_code, chain, sheet_of};
 ghost use Rattle.bench_table.specs.Rows.{bytes_of, every_speed, speeds_to_ceiling, Asks, numbers_of, Answered, refused_as, intervals_of, accepted_of};
 
 mod call;
@@ -17,6 +18,7 @@ mod call;
 use call::{Asked, Call, Sheet};
 use evaluate::{Accepted, AcceptedRun, AcceptedSpeed};
 use plan::Plan;
+use queries::Shares;
 use records::Records;
 use std::io::{Print, Stdout};
 use std::{array, fmt, io};
@@ -73,11 +75,9 @@ fn component(total: u16, intervals: &[(u16, u16, u16)]) -> Component
     ensures { result ≡ component_of total intervals.now }
 {
     let mut c = Component {
-        lows: [0; MOST_HELD],
-        highs: [0; MOST_HELD],
-        weights: [0; MOST_HELD],
         count: intervals.len(),
         total,
+        ..Component::default()
     };
     // By place: an interval's three numbers lie in three arrays, as document 01 has them.
     for (i, (low, high, weight)) in intervals.iter().enumerate() {
@@ -105,7 +105,7 @@ fn single_speeds(total: u16, speeds: &[u16]) -> Component
     }
 }
 
-// The code of a join in a structure. No `From`: neither type is this crate's, and only these rows ask for a join's code.
+// The code of a join in a structure. No `From` in theory: only these rows ask for a join's code.
 fn code_of(join: Join) -> u16
     ensures { result ≡ join_code join }
 {
@@ -122,7 +122,7 @@ fn sheet(components: &[Component], join: Join) -> Sheet
     ensures { bytes_of result ≡ sheet_of (chain components.now join) }
 {
     let n = components.len();
-    let mut places = Plan::zeros().components;
+    let mut places = Plan::default().components;
     places[..n].copy_from_slice(components);
     let code = code_of(join);
     let p = Plan {
@@ -168,14 +168,14 @@ fn sheet_w() -> Sheet
     sheet(&[first, second], Join::Series)
 }
 
-// D1, D2 and D3 with so many speeds.
-fn d_with(count: u16) -> Sheet
-    requires { count ≤ most_held }
-    ensures { bytes_of result ≡ sheet_of (chain (D1 ∷ D2 ∷ D3 count ∷ []) Join.Shared) }
+// D1, D2 and a third component, of these speeds.
+fn d_with(speeds: &[u16]) -> Sheet
+    requires { length speeds.now ≤ most_held }
+    ensures { bytes_of result ≡ sheet_of (chain (D1 ∷ D2 ∷ single_speeds (length speeds.now) speeds.now ∷ []) Join.Shared) }
 {
     let d1 = single_speeds(8, &D1_SPEEDS);
     let d2 = single_speeds(8, &D2_SPEEDS);
-    let d3 = single_speeds(count, &D3_SPEEDS[..usize::from(count)]);
+    let d3 = single_speeds(speeds.len() as u16, speeds);
     sheet(&[d1, d2, d3], Join::Shared)
 }
 
@@ -320,7 +320,7 @@ impl<'a> Call<'a> {
     }
 }
 
-// The numbers in a shares' buffer, 8 bytes each; those of a plan, in crate wire, have 2 and are cast.
+// The numbers in a shares' buffer, 8 bytes each. No twin of crate wire's `numbers_in`, whose numbers have 2 bytes and are cast to 16 bits.
 fn numbers_in(shares: &[u8; SHARES_ROOM]) -> [u64; SHARES_HELD]
     ensures { result ≡ numbers_of shares.now }
 {
@@ -341,8 +341,8 @@ impl Answer {
         ensures { result ≡ intervals_of self.now }
     {
         match self {
-            Answer::Bounds(a) => a.unwrap_or_default().intervals,
-            Answer::Speed(a) => a.unwrap_or_default().answer.intervals,
+            Answer::Bounds(a) => a.unwrap_or_default().run.intervals,
+            Answer::Speed(a) => a.unwrap_or_default().answer.run.intervals,
             Answer::Set(r, _) => r.unwrap_or_default().intervals,
         }
     }
@@ -352,19 +352,22 @@ impl Answer {
 fn accepted(total: u64, belief: u64, plausibility: u64, pairs: u64, intervals: usize) -> Accepted
     ensures { result ≡ accepted_of total belief plausibility pairs intervals }
 {
-    Accepted {
+    let run = AcceptedRun {
         total,
-        belief,
-        plausibility,
         pairs,
         intervals,
-    }
+    };
+    let shares = Shares {
+        belief,
+        plausibility,
+    };
+    Accepted { run, shares }
 }
 
-fn ok(total: u64, belief: u64, plausibility: u64, pairs: u64, intervals: usize) -> Answer
-    ensures { result ≡ Answer.Bounds (Ok (accepted_of total belief plausibility pairs intervals)) }
+fn ok(answer: Accepted) -> Answer
+    ensures { result ≡ Answer.Bounds (Ok answer) }
 {
-    Answer::Bounds(Ok(accepted(total, belief, plausibility, pairs, intervals)))
+    Answer::Bounds(Ok(answer))
 }
 
 fn ok_speed(speed: u64, answer: Accepted) -> Answer
@@ -389,6 +392,7 @@ fn holds(list: Records, wanted: &[Focal]) -> bool
     ensures { IsTrue result ↔ records_of list.entry ≡ wanted.now }
 {
     let read = list.records.iter().map(records::focal_in);
+    // Not by the iterators' `eq`: tried, and the proof did not close.
     list.records.len() == wanted.len() && read.zip(wanted).all(|(f, g)| f == *g)
 }
 
@@ -407,14 +411,11 @@ struct Values(Result<Accepted, Refusal>);
 impl fmt::Display for Values {
     fn fmt<W: fmt::Write>(&self, f: &mut fmt::Formatter<W>) -> fmt::Result {
         let number = theory::number_in(self.0);
-        let a = self.0.unwrap_or_default();
-        write!(
-            f,
-            ": number {number}, total {}, belief {}",
-            a.total, a.belief
-        )?;
-        write!(f, ", plausibility {}", a.plausibility)?;
-        write!(f, ", pairs {}, intervals {}", a.pairs, a.intervals)
+        let Accepted { run, shares } = self.0.unwrap_or_default();
+        write!(f, ": number {number}, total {}", run.total)?;
+        write!(f, ", belief {}", shares.belief)?;
+        write!(f, ", plausibility {}", shares.plausibility)?;
+        write!(f, ", pairs {}, intervals {}", run.pairs, run.intervals)
     }
 }
 
@@ -494,13 +495,13 @@ fn rows_of_a_and_b(t: &mut Table) -> io::Result<()> {
     let shared = a_and_b(Join::Shared);
     let spare = a_and_b(Join::Spare);
     rows! { t;
-        "P1 A, B series, demand 2": series.at(2).gives(ok(12, 0, 3, 4, 3), &P1),
-        "P2 A, B shared, demand 1": shared.at(1).gives(ok(12, 12, 12, 4, 4), &P2),
-        "P3 same, demand 3": shared.at(3).gives(ok(12, 9, 10, 4, 4), &P2),
-        "P4 same, demand 7": shared.at(7).gives(ok(12, 0, 3, 4, 4), &P2),
-        "P4 same, demand 8": shared.at(8).gives(ok(12, 0, 0, 4, 4), &P2),
-        "P5 same, demand 0": shared.at(0).gives(ok(12, 12, 12, 4, 4), &P2),
-        "P6 A, B spare, demand 0": spare.at(0).gives(ok(12, 12, 12, 4, 4), &P6),
+        "P1 A, B series, demand 2": series.at(2).gives(ok(accepted(12, 0, 3, 4, 3)), &P1),
+        "P2 A, B shared, demand 1": shared.at(1).gives(ok(accepted(12, 12, 12, 4, 4)), &P2),
+        "P3 same, demand 3": shared.at(3).gives(ok(accepted(12, 9, 10, 4, 4)), &P2),
+        "P4 same, demand 7": shared.at(7).gives(ok(accepted(12, 0, 3, 4, 4)), &P2),
+        "P4 same, demand 8": shared.at(8).gives(ok(accepted(12, 0, 0, 4, 4)), &P2),
+        "P5 same, demand 0": shared.at(0).gives(ok(accepted(12, 12, 12, 4, 4)), &P2),
+        "P6 A, B spare, demand 0": spare.at(0).gives(ok(accepted(12, 12, 12, 4, 4)), &P6),
     }
     Ok(())
 }
@@ -511,9 +512,9 @@ fn rows_of_w_and_refusals(t: &mut Table) -> io::Result<()> {
     let p2 = a_and_b(Join::Shared);
     let other = a_and_b_as(0x80, 0x10);
     rows! { t;
-        "P7 W, demand 0": w.at(0).gives(ok(10000, 10000, 10000, 6, 4), &P7),
-        "P8 W, demand 7": w.at(7).gives(ok(10000, 429, 2640, 6, 4), &P7),
-        "P9 case P2, demand 3, allowance 4": p2.at(3).allow(4).gives(ok(12, 9, 10, 4, 4), &P2),
+        "P7 W, demand 0": w.at(0).gives(ok(accepted(10000, 10000, 10000, 6, 4)), &P7),
+        "P8 W, demand 7": w.at(7).gives(ok(accepted(10000, 429, 2640, 6, 4)), &P7),
+        "P9 case P2, demand 3, allowance 4": p2.at(3).allow(4).gives(ok(accepted(12, 9, 10, 4, 4)), &P2),
         "P9 case P2, demand 3, allowance 3": p2.at(3).allow(3).refused(Refusal::Allowance),
         "P10 structure 8 0 1": other.at(0).refused(Refusal::Joins),
     }
@@ -522,18 +523,18 @@ fn rows_of_w_and_refusals(t: &mut Table) -> io::Result<()> {
 
 // The others. Byte 3 of a sheet ends the first component's T.
 fn rows_of_limits(t: &mut Table) -> io::Result<()> {
-    let five = d_with(5);
+    let five = d_with(&D3_SPEEDS[..5]);
     let any = alone(component(1000, &[(0, 4095, 1000)]));
     let above = any.with(3, 0xE9);
     let p2 = a_and_b(Join::Shared);
     let other = a_and_b_as(0x00, 0x80);
     rows! { t;
-        "D1, D2, D3 with 4, demand 0": d_with(4).at(0).gives(ok(256, 256, 256, 320, 256), &every_speed()),
+        "D1, D2, D3 with 4, demand 0": d_with(&D3_SPEEDS[..4]).at(0).gives(ok(accepted(256, 256, 256, 320, 256)), &every_speed()),
         "D1, D2, D3 with 5, allowance 384": five.at(0).allow(384).refused(Refusal::ListLength),
         "D1, D2, D3 with 5, allowance 383": five.at(0).allow(383).refused(Refusal::Allowance),
-        "T 1,000, demand 1": any.at(1).gives(ok(1000, 0, 1000, 0, 1), &list![[0, 4095] 1000]),
+        "T 1,000, demand 1": any.at(1).gives(ok(accepted(1000, 0, 1000, 0, 1)), &list![[0, 4095] 1000]),
         "T 1,001, demand 1": above.at(1).refused(Refusal::Total),
-        "buffer 16,384 bytes, demand 3": p2.at(3).gives(ok(12, 9, 10, 4, 4), &P2),
+        "buffer 16,384 bytes, demand 3": p2.at(3).gives(ok(accepted(12, 9, 10, 4, 4)), &P2),
         "buffer 16,383 bytes, demand 3": p2.at(3).store(ROOM - 1).refused(Refusal::Store),
         "structure 0 0 8": other.at(0).refused(Refusal::Naming),
     }
@@ -555,14 +556,14 @@ fn rows_of_rests(t: &mut Table) -> io::Result<()> {
     let below = a_and_b(Join::Shared).with(3, 5);
     let below_list = list![[3, 7] 3, [3, 4] 6, [1, 4095] 3, [1, 4] 1, [1, 1] 2];
     rows! { t;
-        "940 of 1,000 accounted for, demand 1,000": logged.at(1000).allow(0).gives(ok(1000, 440, 1000, 0, 3), &logged_list),
-        "a rest where [0,4095] is listed, demand 5": any.at(5).allow(0).gives(ok(10, 4, 10, 0, 2), &any_list),
-        "weight 1 of T 1,000, demand 4,095": little.at(4095).allow(0).gives(ok(1000, 1, 1000, 0, 2), &little_list),
-        "eight intervals and a rest, demand 7": nine.at(7).allow(0).gives(ok(9, 1, 2, 0, 9), &NINE),
-        "two of these in series, demand 7, allowance 81": nines.at(7).allow(81).gives(ok(81, 1, 4, 81, 16), &NINES),
+        "940 of 1,000 accounted for, demand 1,000": logged.at(1000).allow(0).gives(ok(accepted(1000, 440, 1000, 0, 3)), &logged_list),
+        "a rest where [0,4095] is listed, demand 5": any.at(5).allow(0).gives(ok(accepted(10, 4, 10, 0, 2)), &any_list),
+        "weight 1 of T 1,000, demand 4,095": little.at(4095).allow(0).gives(ok(accepted(1000, 1, 1000, 0, 2)), &little_list),
+        "eight intervals and a rest, demand 7": nine.at(7).allow(0).gives(ok(accepted(9, 1, 2, 0, 9)), &NINE),
+        "two of these in series, demand 7, allowance 81": nines.at(7).allow(81).gives(ok(accepted(81, 1, 4, 81, 16)), &NINES),
         "two of these in series, allowance 80": nines.at(7).allow(80).refused(Refusal::Allowance),
         "case P2, A with T 3": above.at(3).refused(Refusal::Weights),
-        "case P2, A with T 5, demand 3": below.at(3).gives(ok(15, 9, 13, 6, 5), &below_list),
+        "case P2, A with T 5, demand 3": below.at(3).gives(ok(accepted(15, 9, 13, 6, 5)), &below_list),
     }
     Ok(())
 }
@@ -576,17 +577,14 @@ fn rows_of_ceiling(t: &mut Table) -> io::Result<()> {
     let slow = component(2, &[(50, 60, 1), (95, 200, 1)]);
     let short = sheet(&[fast, slow], Join::Shared);
     let short_list = list![[4095, 4095] 8, [4050, 4095] 2, [3095, 4095] 1, [3050, 4060] 1];
-    let d1 = single_speeds(8, &D1_SPEEDS);
-    let d2 = single_speeds(8, &D2_SPEEDS);
-    let d3 = single_speeds(5, &[0, 64, 128, 4094, 4095]);
-    let d = sheet(&[d1, d2, d3], Join::Shared);
+    let d = d_with(&[0, 64, 128, 4094, 4095]);
     let d_list = speeds_to_ceiling();
     rows! { t;
-        "4,095 and 1 shared, demand 4,095": both.at(4095).gives(ok(1, 1, 1, 1, 1), &list![[4095, 4095] 1]),
-        "same, demand 4,096": both.at(4096).gives(ok(1, 0, 0, 1, 1), &list![[4095, 4095] 1]),
-        "a list that the ceiling shortens, demand 4,095": short.at(4095).gives(ok(12, 8, 11, 6, 4), &short_list),
+        "4,095 and 1 shared, demand 4,095": both.at(4095).gives(ok(accepted(1, 1, 1, 1, 1)), &list![[4095, 4095] 1]),
+        "same, demand 4,096": both.at(4096).gives(ok(accepted(1, 0, 0, 1, 1)), &list![[4095, 4095] 1]),
+        "a list that the ceiling shortens, demand 4,095": short.at(4095).gives(ok(accepted(12, 8, 11, 6, 4)), &short_list),
         "D1, D2 and 0, 64, 128, 4,094, 4,095, demand 4,095, allowance 384":
-            d.at(4095).allow(384).gives(ok(320, 127, 127, 384, 194), &d_list[62..]),
+            d.at(4095).allow(384).gives(ok(accepted(320, 127, 127, 384, 194)), &d_list[62..]),
         "D1, D2 and 0, 64, 128, 4,094, 4,095, allowance 383": d.at(4095).allow(383).refused(Refusal::Allowance),
     }
     Ok(())
@@ -613,7 +611,7 @@ fn rows_of_speeds(t: &mut Table) -> io::Result<()> {
 fn rows_of_refused_speeds(t: &mut Table) -> io::Result<()> {
     let other = a_and_b_as(0x80, 0x10);
     let p2 = a_and_b(Join::Shared);
-    let five = d_with(5);
+    let five = d_with(&D3_SPEEDS[..5]);
     rows! { t;
         "structure 8 0 1, target 0, buffer 16,383 bytes": other.speed(0).store(ROOM - 1).refused(Refusal::Joins),
         "target 0, buffer 16,383 bytes": p2.speed(0).store(ROOM - 1).refused(Refusal::Store),
@@ -645,7 +643,7 @@ fn rows_of_sets(t: &mut Table) -> io::Result<()> {
 fn rows_of_refused_sets(t: &mut Table) -> io::Result<()> {
     let other = a_and_b_as(0x80, 0x10);
     let p2 = a_and_b(Join::Shared);
-    let five = d_with(5);
+    let five = d_with(&D3_SPEEDS[..5]);
     rows! { t;
         "structure 8 0 1, no demand, buffer 16,383 bytes": other.set(&[]).store(ROOM - 1).refused(Refusal::Joins),
         "no demand, buffer 16,383 bytes": p2.set(&[]).store(ROOM - 1).refused(Refusal::Store),

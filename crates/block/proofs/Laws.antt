@@ -1,5 +1,5 @@
 -- Laws of a block that is read: what its two tests say, its two cases, its component's places, and that its fields fit. Assumes nothing.
-use mathlib.Core.Path.{◌≡◌, refl, sym, ap, ◌∙◌}
+use mathlib.Core.Path.{◌≡◌, refl, ap, ◌∙◌}
 use mathlib.Core.Bool.{Bool, true, false, ◌||◌, true≢false}
 use mathlib.Core.List.{List}
 use Prim.Native.Nat.{ℕ, ◌≤◌, ◌<◌}
@@ -15,7 +15,7 @@ use Rattle.block.specs.Block.{count_bits, zero_bits, place_of, size_of, padding_
 use Rattle.block.specs.declared.Block.{Block}
 use Rattle.std.specs.Array.{AllOfLen}
 use Rattle.std.specs.Prelude.{Some, None, replicate}
-use Rattle.std.proofs.lemmas.List.{length-replicate, get_or-replicate, ext_get_or}
+use Rattle.theory.proofs.Every.{all_alike}
 use Rattle.theory.specs.declared.Component.{Component}
 use Rattle.block.proofs.Rows.{row_ext, row_used}
 
@@ -78,10 +78,8 @@ block_read s b e = go (cut_short s) refl
     go false h = let q : Some b ≡ Some (record { nonzero = bad_zero_bits s; size = size_of (count_in s); component = component_in s }) = e ∙ block_uncut s h in (h, cc)
 
 -- A component by default is that of zeros.
-zeros_are : {xs : List ℕ} (n : ℕ) → AllOfLen (λ x. x ≡ 0) xs n → xs ≡ replicate n 0
-zeros_are {xs} n a =
-    ext_get_or 0 xs (replicate n 0) (a.long ∙ sym (length-replicate n 0))
-    (λ i h. a.at i 0 (rw a.long at h) ∙ sym (get_or-replicate n i 0 0 (rw a.long at h)))
+zeros_are : {xs : List ℕ} → AllOfLen (λ x. x ≡ 0) xs most_held → xs ≡ replicate most_held 0
+zeros_are a = all_alike 0 (λ x e. e) most_held a
 
 abbrev pub ByDefault : Component → Type 0
 ByDefault c =
@@ -91,7 +89,7 @@ ByDefault c =
 pub default_is_zero : (c : Component) → ByDefault c → c ≡ zero_component
 default_is_zero c d =
     let e : ◌≡◌ {A = Component} (record { lows = c.lows; highs = c.highs; weights = c.weights; count = c.count; total = c.total }) zero_component =
-    rw (zeros_are most_held d.0, zeros_are most_held d.1.0, zeros_are most_held d.1.1.0, d.1.1.1.0, d.1.1.1.1) in
+    rw (zeros_are d.0, zeros_are d.1.0, zeros_are d.1.1.0, d.1.1.1.0, d.1.1.1.1) in
     e
 
 -- A component that is filled: it depends on the used places alone, and each holds its interval.

@@ -1,4 +1,4 @@
-// How far a block goes. The struct has a file of its own: its ghost field must not lead back to what names it.
+// How far a block goes. The struct has a file of its own: what its ghost field names may not lead back to the file that declares it.
 
 ghost use Rattle.std.specs.Prelude.{◌≤◌};
 ghost use Rattle.theory.specs.Limits.{most_held};

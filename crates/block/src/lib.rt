@@ -1,5 +1,5 @@
 // The block of one component, read and written.
-// Where a number is cast there is no `From`, and the check proves that nothing is lost.
+// Where a number is cast there is no `From`, a `TryFrom` would never fail, and the check proves that nothing is lost.
 #![tactic(auto)]
 
 ghost use Rattle.std.specs.Prelude.{◌≡◌, ◌≤◌, ◌*◌, length};
@@ -74,7 +74,8 @@ impl Extent {
     }
 }
 
-// The interval at bit `place`. Its bits are gathered once; the sizes of its fields are fixed entries of the table.
+// The interval at bit `place`. Its bits are gathered once; the sizes of its fields are fixed entries of the table. Buffer and place stand one by
+// one, as in `s[i..]`.
 fn read_interval(part: &[u8], place: usize) -> Focal
     requires { WindowInside part.now place interval_bits }
     ensures { result ≡ interval_at part.now place }
@@ -180,5 +181,9 @@ pub fn write_block(dst: &mut [u8], c: HeldComponent)
     };
     field::put_fields(dst, 0, &[count, zero, total]);
     put_intervals(dst, c);
-    field::put_field(dst, interval_place(k), Extent::of(c).padding_bits(), 0);
+    let padding = Field {
+        width: Extent::of(c).padding_bits(),
+        value: 0,
+    };
+    field::put_field(dst, interval_place(k), padding);
 }

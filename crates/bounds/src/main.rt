@@ -12,7 +12,7 @@ use std::io::{Eprint, Print, Read, Stderr, Stdin, Stdout};
 use std::{fmt, io};
 use theory::Refusal;
 
-// The number in four bytes from `at` on, most significant first.
+// The number in four bytes from `at` on, most significant first: by the reader of a sheet's fields, whose law serves here.
 fn word(input: &[u8], at: usize) -> u32
     requires { (at ≤ 4) × (at + 4 ≤ length input.now) }
     ensures { result ≡ field_at input.now (8 * at) 32 }
@@ -27,10 +27,10 @@ fn read_some(mut from: Stdin, buffer: &mut [u8]) -> usize
     from.read(buffer).unwrap_or(0)
 }
 
-// Reads until the buffer is full or the input ends, and answers how many bytes it put at the start of the buffer. A loop: std's `read_exact`
-// does not say how many where the input ends early.
-fn read_full(from: Stdin, buffer: &mut [u8]) -> usize
-    ensures { result ≤ length buffer.new }
+// Reads until the buffer is full or the input ends, and answers what it read. A loop: std's `read_exact` does not say how much that is where the
+// input ends early.
+fn read_full(from: Stdin, buffer: &mut [u8]) -> &[u8]
+    ensures { length result.now ≤ length buffer.old }
 {
     let mut done = 0;
     while done < buffer.len() {
@@ -40,25 +40,15 @@ fn read_full(from: Stdin, buffer: &mut [u8]) -> usize
         }
         done += n;
     }
-    done
+    &buffer[..done]
 }
 
-// Reads once more. Answers whether the input may go on.
-fn skip_some(from: Stdin) -> bool {
-    let mut rest = [0u8; 65536];
-    0 < read_some(from, &mut rest)
+// Reads the input to its end, so that a writer of a pipe can finish. A failed read counts as the input's end.
+fn skip_rest(mut from: Stdin) {
+    let _ = io::copy(&mut from, &mut io::sink());
 }
 
-// Reads the input to its end, so that a writer of a pipe can finish. A `for` of so many turns, since an input may have no end and a loop must.
-fn skip_rest(from: Stdin) {
-    for _ in 0..u64::MAX {
-        if !skip_some(from) {
-            break;
-        }
-    }
-}
-
-// What is printed of a call: its answer, a refusal's number and zeros, and the list in the store. It stops at the first failed write.
+// What is printed of a call: its answer, where it is refused the number and zeros, and the list in the store. It stops at the first failed write.
 #[derive(Clone, Copy)]
 struct Report<'a> {
     answer: Result<Accepted, Refusal>,
@@ -68,13 +58,11 @@ struct Report<'a> {
 impl<'a> fmt::Display for Report<'a> {
     fn fmt<W: fmt::Write>(&self, f: &mut fmt::Formatter<W>) -> fmt::Result {
         let number = theory::number_in(self.answer);
-        let a = self.answer.unwrap_or_default();
-        write!(f, "answer {number} total {} belief {}", a.total, a.belief)?;
-        writeln!(
-            f,
-            " plausibility {} pairs {} intervals {}",
-            a.plausibility, a.pairs, a.intervals
-        )?;
+        let Accepted { run, shares } = self.answer.unwrap_or_default();
+        write!(f, "answer {number} total {}", run.total)?;
+        write!(f, " belief {}", shares.belief)?;
+        write!(f, " plausibility {}", shares.plausibility)?;
+        writeln!(f, " pairs {} intervals {}", run.pairs, run.intervals)?;
         for r in self.list.records {
             let focal = records::focal_in(r);
             writeln!(f, "{} {} {}", focal.low, focal.high, focal.weight)?;
@@ -93,21 +81,21 @@ fn warn(to: Stderr, written: io::Result<()>) {
 // A sheet has at most 255 bytes: with 256, as with more, it is refused whatever they are, so the rest of a longer input is not kept.
 fn main(rt: HostRuntime) {
     let out = rt.stdout();
-    let mut input = [0u8; 264];
-    let n = read_full(rt.stdin(), &mut input);
-    if n < 8 {
+    let mut buffer = [0u8; 264];
+    let input = read_full(rt.stdin(), &mut buffer);
+    if input.len() < 8 {
         warn(rt.stderr(), println!(out; "input short"));
         return;
     }
-    if n == 264 {
+    if input.len() == 264 {
         skip_rest(rt.stdin());
     }
-    let demand = word(&input, 0);
-    let allowance = word(&input, 4);
+    let demand = word(input, 0);
+    let allowance = word(input, 4);
     let mut store = [0u8; theory::STORE_BYTES];
-    let answer = evaluate::bounds(&input[8..n], demand, allowance, &mut store);
+    let answer = evaluate::bounds(&input[8..], demand, allowance, &mut store);
     // A refused call leaves no list.
-    let count = answer.map_or(0, |a| a.intervals);
+    let count = answer.map_or(0, |a| a.run.intervals);
     let report = Report {
         answer,
         list: Records::new(&store, count),

@@ -1,19 +1,23 @@
 -- The call for C hosts, by whether the answer buffer is too short: the statement of specs/Call.antt. Assumes nothing.
-use Prim.Native.Nat.{ℕ, ◌≤◌, ◌<◌}
-use mathlib.Core.Path.{◌≡◌, refl, ap, ◌∙◌}
-use mathlib.Core.List.{List, [], ◌++◌, append_assoc}
+use Prim.Native.Nat.{ℕ, zero, suc, ◌≤◌, ◌<◌}
+use mathlib.Core.Path.{◌≡◌, refl, sym, ap, ◌∙◌}
+use mathlib.Core.Bool.{true, true≢false}
+use mathlib.Core.List.{List, [], ◌∷◌, ◌++◌, append_assoc}
 use native.Mathlib.Omega.{arith}
 use lib.ListN.{length, drop, length-append}
 use lib.Seq.{drop_at}
 use borrow.Author.Tests.{lt-ltb, le-ltb}
 use Rattle.numbers.specs.Numbers.{big_endian}
 use Rattle.numbers.proofs.Numbers.{length-big_endian, read_front, read_behind}
-use Rattle.plan.specs.Tests.{First, here}
+use Rattle.theory.specs.Sums.{Every, more}
+use Rattle.theory.proofs.Every.{every_split}
+use Rattle.plan.specs.Tests.{test, first_broken, Unbroken, First, here}
+use Rattle.reading.specs.Reading.{sheet_tests}
 use Rattle.evaluate.specs.Answer.{Answer}
 use Rattle.evaluate.specs.Answer.{call_tests, answer}
 use Rattle.evaluate.specs.Store.{store_after}
 use Rattle.evaluate.specs.Demands.{by_test}
-use Rattle.plan.proofs.Numbers.{first_in_front, first_behind}
+use Rattle.plan.proofs.Numbers.{accepted_by, refused_by, first_in_front, first_behind}
 use Rattle.evaluate.proofs.Demands.{demand_1, Fits64, answer_fits}
 use Rattle.drive.specs.Call.{answer_bytes, encode_answer, number_returned, list_after, answer_after, TooShort, AnswersRead, Call}
 
@@ -46,6 +50,21 @@ answers_read a fits rest {buffer} e =
 
 -- ---- an answer buffer that is too short
 
+-- A call without a store is refused by one of the tests that every call has first.
+positive : (sheet : List ℕ) → 0 < first_broken (call_tests sheet 0)
+positive sheet = go (first_broken (call_tests sheet 0)) refl
+  where
+    last : Every Unbroken (test 12 true ∷ []) → ⊥
+    last (more e es) = true≢false e
+
+    go : (k : ℕ) → first_broken (call_tests sheet 0) ≡ k → 0 < k
+    go zero e = absurd (last (every_split (sheet_tests sheet) ((accepted_by 12 (call_tests sheet 0) refl).0 e)).1)
+    go (suc k) e = omega arith
+
+-- Its number is that of the first.
+pub first_refuses : (sheet : List ℕ) {number : ℕ} → ((k : ℕ) → 0 < k → First (call_tests sheet 0) k → number ≡ k) → first_broken (call_tests sheet 0) ≡ number
+first_refuses sheet is = sym (is _ (positive sheet) ((refused_by (call_tests sheet 0) _ (positive sheet)).0 refl))
+
 -- The number is that of the first test that is broken, of a call without a list buffer.
 pub short_call : {sheet list list_then buffer buffer_then : List ℕ} {number : ℕ} → ((k : ℕ) → 0 < k → First (call_tests sheet 0) k → number ≡ k)
     → list_then ≡ list → buffer_then ≡ buffer → TooShort sheet number list list_then buffer buffer_then
@@ -65,6 +84,13 @@ module _ (sheet : List ℕ) (demand allowance : ℕ) (list buffer : List ℕ) wh
   unfolding number_returned list_after answer_after
   too_short h = rw (lt-ltb (length buffer) answer_bytes h, number_returned) (refl, refl, refl)
 
+  short_number : length buffer < answer_bytes → (k : ℕ) → 0 < k → First (call_tests sheet 0) k → number_returned sheet demand allowance list buffer ≡ k
+  short_number h k l f = (too_short h).0 ∙ ((demand_1 sheet demand allowance []).refused_by k l).1 (by_test f)
+
+  -- So the call answers by the tests that every call has first.
+  pub refuses : length buffer < answer_bytes → first_broken (call_tests sheet 0) ≡ number_returned sheet demand allowance list buffer
+  refuses h = first_refuses sheet (short_number h)
+
   long_enough : answer_bytes ≤ length buffer → (number_returned sheet demand allowance list buffer ≡ (answer sheet demand allowance (length list)).number)
       × (list_after sheet allowance list buffer ≡ store_after sheet allowance list)
       × (answer_after sheet demand allowance list buffer ≡ encode_answer (answer sheet demand allowance (length list)) ++ drop answer_bytes buffer)
@@ -75,7 +101,7 @@ module _ (sheet : List ℕ) (demand allowance : ℕ) (list buffer : List ℕ) wh
   call = record {
     too_short = λ h.
         let way = too_short h in
-        short_call (λ k l f. way.0 ∙ ((demand_1 sheet demand allowance []).refused_by k l).1 (by_test f)) way.1 way.2;
+        short_call (short_number h) way.1 way.2;
     long_enough = λ h.
         let way = long_enough h in
         let a : Answer = answer sheet demand allowance (length list) in

@@ -7,14 +7,16 @@ use lib.Seq.{drop_at}
 use borrow.Author.Tests.{lt-ltb, le-ltb}
 use Rattle.numbers.specs.Numbers.{big_endian}
 use Rattle.numbers.proofs.Numbers.{length-big_endian, read_front, read_behind}
+use Rattle.plan.specs.Tests.{first_broken, First}
 use Rattle.plan.proofs.Numbers.{first_in_front}
 use Rattle.evaluate.specs.SheetRun.{SheetRun}
 use Rattle.evaluate.specs.Set.{set_answer, set_store_after, shares_after}
+use Rattle.evaluate.specs.Answer.{call_tests}
 use Rattle.evaluate.specs.Demands.{by_test}
 use Rattle.evaluate.proofs.SetMet.{set_met, set_answer_fits}
 use Rattle.wire.specs.Demands.{demands_in}
 use Rattle.drive.specs.Set.{set_answer_bytes, encode_set_answer, set_number, set_list_after, set_shares_after, set_answer_after, SetCall}
-use Rattle.drive.proofs.Call.{short_call}
+use Rattle.drive.proofs.Call.{first_refuses, short_call}
 
 length_set_answer : (r : SheetRun) → length (encode_set_answer r) ≡ set_answer_bytes
 unfolding encode_set_answer
@@ -27,6 +29,12 @@ module _ (sheet demands : List ℕ) (allowance : ℕ) (list shares buffer : List
       × (set_answer_after sheet demands allowance list shares buffer ≡ buffer)
   unfolding set_number set_list_after set_shares_after set_answer_after
   too_short h = rw (lt-ltb (length buffer) set_answer_bytes h, set_number) (refl, refl, refl, refl)
+
+  short_number : length buffer < set_answer_bytes → (k : ℕ) → 0 < k → First (call_tests sheet 0) k → set_number sheet demands allowance list shares buffer ≡ k
+  short_number h k l f = (too_short h).0 ∙ ((set_met sheet (demands_in demands) allowance [] []).first.refused_by k l).1 (by_test (first_in_front f _))
+
+  pub refuses : length buffer < set_answer_bytes → first_broken (call_tests sheet 0) ≡ set_number sheet demands allowance list shares buffer
+  refuses h = first_refuses sheet (short_number h)
 
   long_enough : set_answer_bytes ≤ length buffer
       → (set_number sheet demands allowance list shares buffer ≡ (set_answer sheet (demands_in demands) allowance (length list) (length shares)).number)
@@ -41,8 +49,7 @@ module _ (sheet demands : List ℕ) (allowance : ℕ) (list shares buffer : List
   set_call = record {
     too_short = λ h.
         let way = too_short h in
-        let met = set_met sheet (demands_in demands) allowance [] [] in
-        (short_call (λ k l f. way.0 ∙ (met.first.refused_by k l).1 (by_test (first_in_front f _))) way.1 way.3, way.2);
+        (short_call (short_number h) way.1 way.3, way.2);
     long_enough = λ h.
         let way = long_enough h in
         let r : SheetRun = set_answer sheet (demands_in demands) allowance (length list) (length shares) in

@@ -8,14 +8,16 @@ use lib.Seq.{drop_at}
 use borrow.Author.Tests.{lt-ltb, le-ltb}
 use Rattle.numbers.specs.Numbers.{big_endian}
 use Rattle.numbers.proofs.Numbers.{length-big_endian, read_front, read_past}
+use Rattle.plan.specs.Tests.{first_broken, First}
 use Rattle.plan.proofs.Numbers.{first_in_front}
 use Rattle.evaluate.specs.Speed.{SpeedAnswer}
 use Rattle.evaluate.specs.Speed.{speed_answer, speed_store_after}
+use Rattle.evaluate.specs.Answer.{call_tests}
 use Rattle.evaluate.specs.Demands.{by_test}
 use Rattle.evaluate.proofs.SpeedMet.{speed_met, speed_answer_fits}
 use Rattle.drive.specs.Call.{answer_bytes, encode_answer}
 use Rattle.drive.specs.Speed.{speed_answer_bytes, encode_speed_answer, speed_number, speed_list_after, speed_answer_after, SpeedCall}
-use Rattle.drive.proofs.Call.{length_answer, answers_read, short_call}
+use Rattle.drive.proofs.Call.{length_answer, answers_read, first_refuses, short_call}
 
 length_speed_answer : (p : SpeedAnswer) → length (encode_speed_answer p) ≡ speed_answer_bytes
 unfolding encode_speed_answer
@@ -30,6 +32,12 @@ module _ (sheet : List ℕ) (target allowance : ℕ) (list buffer : List ℕ) wh
   unfolding speed_number speed_list_after speed_answer_after
   too_short h = rw (lt-ltb (length buffer) speed_answer_bytes h, speed_number) (refl, refl, refl)
 
+  short_number : length buffer < speed_answer_bytes → (k : ℕ) → 0 < k → First (call_tests sheet 0) k → speed_number sheet target allowance list buffer ≡ k
+  short_number h k l f = (too_short h).0 ∙ ((speed_met sheet target allowance []).first.refused_by k l).1 (by_test (first_in_front f _))
+
+  pub refuses : length buffer < speed_answer_bytes → first_broken (call_tests sheet 0) ≡ speed_number sheet target allowance list buffer
+  refuses h = first_refuses sheet (short_number h)
+
   long_enough : speed_answer_bytes ≤ length buffer → (speed_number sheet target allowance list buffer ≡ (speed_answer sheet target allowance (length list)).answer.number)
       × (speed_list_after sheet target allowance list buffer ≡ speed_store_after sheet target allowance list)
       × (speed_answer_after sheet target allowance list buffer ≡ encode_speed_answer (speed_answer sheet target allowance (length list)) ++ drop speed_answer_bytes buffer)
@@ -41,7 +49,7 @@ module _ (sheet : List ℕ) (target allowance : ℕ) (list buffer : List ℕ) wh
   speed_call = record {
     too_short = λ h.
         let way = too_short h in
-        short_call (λ k l f. way.0 ∙ ((speed_met sheet target allowance []).first.refused_by k l).1 (by_test (first_in_front f _))) way.1 way.2;
+        short_call (short_number h) way.1 way.2;
     long_enough = λ h.
         let way = long_enough h in
         let p : SpeedAnswer = speed_answer sheet target allowance (length list) in

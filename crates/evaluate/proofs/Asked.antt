@@ -23,10 +23,9 @@ use Rattle.queries.specs.declared.Shares.{Shares}
 use Rattle.queries.specs.Shares.{shares_of, shares_bytes, encode_shares, encode_set, Summable}
 use Rattle.queries.specs.Speed.{target_tests, Searchable}
 use Rattle.run.specs.Run.{needed}
-use Rattle.evaluate.specs.declared.Accepted.{Accepted}
 use Rattle.evaluate.specs.declared.AcceptedRun.{AcceptedRun}
 use Rattle.evaluate.specs.Answer.{plan_of, components, structure, sheet_outcomes, sheet_list, call_tests, answered_as, answer_of}
-use Rattle.evaluate.specs.SheetRun.{SheetRun, number_then, run_as, sheet_run_of, ending_at, store_at, sheet_run, store_then, accepted_from}
+use Rattle.evaluate.specs.SheetRun.{SheetRun, number_then, run_as, sheet_run_of, ending_at, store_at, sheet_run, store_then}
 use Rattle.evaluate.specs.Speed.{speed_as, speed_by, speed_answer_of}
 use Rattle.evaluate.specs.Set.{shares_by}
 use Rattle.evaluate.proofs.Numbers.{Numbered, number_then_is}
@@ -65,11 +64,11 @@ module _ {s : List ℕ} {allowance : ℕ} {store : List ℕ} {own : List Test} {
     summable = rw list_is (drive_storable (valid a)).1
 
     -- The answer, with the shares of the list.
-    pub answer_asked : (d : ℕ) {y : Shares} → y ≡ shares_of d l → {z : Accepted} → z ≡ accepted_from x y
-        → answered_as (Ok z) ≡ answer_of (end_of s allowance store own) (structure s) (components s) d
-    answer_asked d f g =
+    pub answer_asked : (d : ℕ) {y : Shares} → y ≡ shares_of d l
+        → answered_as (Ok (record { run = x; shares = y })) ≡ answer_of (end_of s allowance store own) (structure s) (components s) d
+    answer_asked d f =
         let r = a.answer_is_run in
-        rw (g, f, list_is) (λ i. record {
+        rw (f, list_is) (λ i. record {
           number = 0;
           total = (r i).total;
           belief = belief-collect d (sheet_outcomes s) i;
@@ -81,11 +80,11 @@ module _ {s : List ℕ} {allowance : ℕ} {store : List ℕ} {own : List Test} {
 
     -- The speed for a target, and the answer with the shares at it.
     pub speed_asked : (target : ℕ) {v : ℕ} → v ≡ speed_for target x.total l → {y : Shares} → y ≡ shares_of v l
-        → {z : Accepted} → z ≡ accepted_from x y → speed_as (Ok (record { answer = z; speed = v })) ≡ speed_answer_of (end_of s allowance store own) (structure s) (components s) target
-    speed_asked target {v} e f {z} g =
+        → speed_as (Ok (record { answer = record { run = x; shares = y }; speed = v })) ≡ speed_answer_of (end_of s allowance store own) (structure s) (components s) target
+    speed_asked target {v} e f =
         let speed_is : v ≡ speed_by (end_of s allowance store own) target (total (components s)) (sheet_list s) =
         e ∙ rw (list_is, a.ends) (ap (λ (u : ℕ). speed_for target u (sheet_list s)) (total_is a)) in
-        (λ i. record { answer = answer_asked v f g i; speed = v })
+        (λ i. record { answer = answer_asked v f i; speed = v })
         ∙ ap (λ (w : ℕ). record { answer = answer_of (end_of s allowance store own) (structure s) (components s) w; speed = w }) speed_is
 
     pub shares_asked : (demands shares : List ℕ) → encode_set demands l ++ drop (shares_bytes * length demands) shares

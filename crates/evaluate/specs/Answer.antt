@@ -67,7 +67,14 @@ refusal number = record { number = number; total = 0; belief = 0; plausibility =
 -- The number and the values of each case of a call's answer.
 abbrev pub answered_as : Result Accepted Refusal → Answer
 answered_as (Ok a) =
-    record { number = 0; total = a.total; belief = a.belief; plausibility = a.plausibility; pairs = a.pairs; intervals = a.intervals }
+    record {
+      number = 0;
+      total = a.run.total;
+      belief = a.shares.belief;
+      plausibility = a.shares.plausibility;
+      pairs = a.run.pairs;
+      intervals = a.run.intervals;
+    }
 answered_as (Err r) = refusal (refusal_number r)
 
 -- An accepted call answers 0, U, formula (7) over all choices, the pairs formed and the length of the drive's list.

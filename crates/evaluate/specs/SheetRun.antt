@@ -3,10 +3,8 @@ use Rattle.std.specs.Prelude.{ℕ, cond, Result, Ok, Err, List, eqb, length}
 use Rattle.theory.specs.Structure.{Tree}
 use Rattle.theory.specs.Evaluation.{Evaluation}
 use Rattle.plan.specs.Tests.{first_broken}
-use Rattle.queries.specs.declared.Shares.{Shares}
 use Rattle.theory.specs.declared.Refusal.{Refusal}
 use Rattle.theory.specs.Refusals.{refusal_number}
-use Rattle.evaluate.specs.declared.Accepted.{Accepted}
 use Rattle.evaluate.specs.declared.AcceptedRun.{AcceptedRun}
 use Rattle.run.specs.Run.{needed}
 use Rattle.evaluate.specs.Answer.{Answer, plan_of, components, structure, sheet_list, call_tests, evaluated, tested_first, refusal, answer_of}
@@ -53,8 +51,3 @@ sheet_run sheet room own allowance = sheet_run_of (ending_at (number_then sheet 
 
 abbrev pub store_then : List ℕ → ℕ → ℕ → List ℕ → List ℕ
 store_then sheet own allowance store = store_at (number_then sheet (length store) own) sheet allowance store
-
--- The answer of an accepted call, from that and the shares of the list.
-abbrev pub accepted_from : AcceptedRun → Shares → Accepted
-accepted_from r s =
-    record { total = r.total; belief = s.belief; plausibility = s.plausibility; pairs = r.pairs; intervals = r.intervals }

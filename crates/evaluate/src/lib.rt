@@ -10,7 +10,7 @@ ghost use Rattle.plan.specs.Plan.{components_of};
 ghost use Rattle.plan.specs.Valid.{Valid};
 ghost use Rattle.evaluate.specs.Answer.{plan_of, call_tests, answered_as, answer};
 ghost use Rattle.evaluate.specs.Store.{is_late, store_after};
-ghost use Rattle.evaluate.specs.SheetRun.{run_as, sheet_run, store_then, accepted_from};
+ghost use Rattle.evaluate.specs.SheetRun.{run_as, sheet_run, store_then};
 ghost use Rattle.evaluate.specs.Speed.{speed_as, speed_answer, speed_store_after};
 ghost use Rattle.evaluate.specs.Set.{set_answer, set_store_after, shares_after};
 
@@ -19,14 +19,11 @@ use queries::Shares;
 use records::Records;
 use theory::Refusal;
 
-// What an accepted ordinary call answers: the total U, the two shares of it, the pairs formed and the length of the drive's list.
+// What an accepted ordinary call answers: what tests and run answer, and the two shares of the total.
 #[derive(Clone, Copy, Default, PartialEq, Eq)]
 pub struct Accepted {
-    pub total: u64,
-    pub belief: u64,
-    pub plausibility: u64,
-    pub pairs: u64,
-    pub intervals: usize,
+    pub run: AcceptedRun,
+    pub shares: Shares,
 }
 
 // What an accepted call for a speed answers: the speed, and the answers of an ordinary call with that speed as its demand.
@@ -37,7 +34,8 @@ pub struct AcceptedSpeed {
 }
 
 // What tests and run answer, before the list is asked, and what an accepted call for a set of demands answers beside the shares: the total U,
-// the pairs formed and the length of the drive's list.
+// the pairs formed and the length of the drive's list. The last two are a `Run`, written out: as one, an answer's numbers would be three
+// names deep.
 #[derive(Clone, Copy, Default, PartialEq, Eq)]
 pub struct AcceptedRun {
     pub total: u64,
@@ -46,7 +44,7 @@ pub struct AcceptedRun {
 }
 
 // The tests that every call has first, on a store of `room` bytes: the plan, or the first refusal of 1 to 12.
-fn test_sheet(sheet: &[u8], room: usize) -> Result<Plan, Refusal>
+pub fn test_sheet(sheet: &[u8], room: usize) -> Result<Plan, Refusal>
     ensures number { number_in result ≡ first_broken (call_tests sheet.now room) }
     ensures plan { IfOk result (λ p. p ≡ plan_of sheet.now) }
 {
@@ -88,19 +86,6 @@ fn run_sheet(
     })
 }
 
-// The answer, from what tests and run answered and the shares of the list.
-fn with_shares(r: AcceptedRun, s: Shares) -> Accepted
-    ensures { result ≡ accepted_from r s }
-{
-    Accepted {
-        total: r.total,
-        belief: s.belief,
-        plausibility: s.plausibility,
-        pairs: r.pairs,
-        intervals: r.intervals,
-    }
-}
-
 // The ordinary call. It answers for any sheet, demand, allowance and store, and leaves every byte of the store as `store_after` says.
 pub fn bounds(
     sheet: &[u8],
@@ -111,9 +96,10 @@ pub fn bounds(
     ensures value { answered_as result ≡ answer sheet.now demand allowance (length store.old) }
     ensures store_after { store.new ≡ store_after sheet.now allowance store.old }
 {
-    let r = run_sheet(sheet, Ok(()), allowance, store)?;
-    let list = Records::new(store, r.intervals);
-    Ok(with_shares(r, queries::shares_at(list, u64::from(demand))))
+    let run = run_sheet(sheet, Ok(()), allowance, store)?;
+    let list = Records::new(store, run.intervals);
+    let shares = queries::shares_at(list, u64::from(demand));
+    Ok(Accepted { run, shares })
 }
 
 // The call for a speed. It answers for any sheet, target, allowance and store, and leaves every byte of the store as `speed_store_after` says.
@@ -126,11 +112,12 @@ pub fn speed(
     ensures value { speed_as result ≡ speed_answer sheet.now target allowance (length store.old) }
     ensures store_after { store.new ≡ speed_store_after sheet.now target allowance store.old }
 {
-    let r = run_sheet(sheet, queries::test_target(target), allowance, store)?;
-    let list = Records::new(store, r.intervals);
-    let speed = queries::speed_for(list, target, r.total);
+    let run = run_sheet(sheet, queries::test_target(target), allowance, store)?;
+    let list = Records::new(store, run.intervals);
+    let speed = queries::speed_for(list, target, run.total);
+    let shares = queries::shares_at(list, speed);
     Ok(AcceptedSpeed {
-        answer: with_shares(r, queries::shares_at(list, speed)),
+        answer: Accepted { run, shares },
         speed,
     })
 }
@@ -149,8 +136,8 @@ pub fn set(
     ensures shares_after { shares.new ≡ shares_after sheet.now demands.now allowance (length store.old) shares.old }
 {
     let own = queries::test_demands(demands.len(), shares.len());
-    let r = run_sheet(sheet, own, allowance, store)?;
-    let list = Records::new(store, r.intervals);
+    let run = run_sheet(sheet, own, allowance, store)?;
+    let list = Records::new(store, run.intervals);
     queries::put_set(list, demands, shares);
-    Ok(r)
+    Ok(run)
 }

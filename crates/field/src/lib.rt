@@ -1,5 +1,5 @@
 // Fields of bits in a slice of bytes, most significant bit first. 8 is the width of a byte; powers of two come from crate powers.
-// Where a number is cast there is no `From`, and the check proves that nothing is lost.
+// Where a number is cast there is no `From`, a `TryFrom` would never fail, and the check proves that nothing is lost.
 #![tactic(auto)]
 
 ghost use Rattle.std.specs.Prelude.{◌≡◌, ◌*◌, ◌%◌, ◌^◌, ◌≤◌, ◌<◌, length};
@@ -27,7 +27,7 @@ pub fn window(src: &[u8], at: usize, width: usize) -> u64
     acc / powers::byte_pow2(last * 8 - end)
 }
 
-// The lowest width bits of x. A padding's width is known only when it runs; it is below 8 and takes one of eight fixed entries.
+// The lowest width bits of x. A padding's width is known only at run time; it is below 8 and takes one of eight fixed entries.
 fn lowest_bits(x: u64, width: usize) -> u64
     requires { width ≤ 32 }
     ensures { result ≡ x % 2 ^ width }
@@ -66,15 +66,15 @@ fn put_bit(dst: &mut [u8], j: usize, b: u64)
     dst[i] = with_bit(x, p, b) as u8;
 }
 
-// Sets the width bits from bit at to the lowest width bits of value; every other bit stays.
-pub fn put_field(dst: &mut [u8], at: usize, width: usize, value: u32)
-    requires { FieldInside dst.old at width }
-    ensures { dst.new ≡ put_at dst.old at width value }
+// Sets the bits of a field from bit at to the lowest bits of its value; every other bit stays.
+pub fn put_field(dst: &mut [u8], at: usize, field: Field)
+    requires { FieldInside dst.old at field.width }
+    ensures { dst.new ≡ put_at dst.old at field.width field.value }
 {
     let two = powers::pow2(1);
-    let mut x = u64::from(value);
+    let mut x = u64::from(field.value);
     // Bits have no slice: by place, the lowest first.
-    for i in (0..width).rev() {
+    for i in (0..field.width).rev() {
         put_bit(dst, at + i, x % two);
         x /= two;
     }
@@ -87,7 +87,7 @@ pub fn put_fields(dst: &mut [u8], at: usize, fields: &[Field])
 {
     let mut place = at;
     for field in fields {
-        put_field(dst, place, field.width, field.value);
+        put_field(dst, place, *field);
         place += field.width;
     }
 }

@@ -8,6 +8,7 @@ use lib.ListN.{length}
 use Rattle.std.proofs.lemmas.Bool.Decides.{nat_tests, leb_tells}
 use borrow.Author.Tests.{le-leb, lt-leb}
 use Rattle.std.specs.Prelude.{Option, Some, None}
+use Rattle.std.specs.Result.{result_ok}
 use Rattle.theory.specs.Sums.{Every}
 use Rattle.theory.specs.Focal.{weights}
 use Rattle.theory.specs.declared.Focal.{Focal}
@@ -73,7 +74,7 @@ module _ {out₀ out : List ℕ} {m : ℕ} {p : Focal} {rest : List Focal} {g : 
   fits_now = omega (arith, f.fits)
 
   module _ {e : List ℕ} (bytes : e ≡ holding out (insert_or_stay p (records m out))) where
-    pub filling_step : {n c : ℕ} → Some n ≡ insertion_of p (records m out) → c ≡ length (insert_or_stay p (records m out)) → Filling out₀ e c rest g
+    pub filling_step : {n c : ℕ} → Some n ≡ result_ok (insertion_of p (records m out)) → c ≡ length (insert_or_stay p (records m out)) → Filling out₀ e c rest g
     filling_step v c =
         let h = held_step f.held p bytes c (every_more f.under).0 fits_now (held_fits f.held p v) in
         record {
@@ -84,7 +85,7 @@ module _ {out₀ out : List ℕ} {m : ℕ} {p : Focal} {rest : List Focal} {g : 
           goal = sym (fill_goes f.acc p rest h.room) ∙ f.goal;
         }
 
-    pub filling_stop : None ≡ insertion_of p (records m out) → Done out₀ e None g
+    pub filling_stop : None ≡ result_ok (insertion_of p (records m out)) → Done out₀ e None g
     filling_stop v =
         let k : most_intervals < length (inserted p f.acc) = held_over f.held p v in
         let ge : record { list = f.acc; count = length (inserted p f.acc) } ≡ g = sym (fill_stops f.acc p rest k) ∙ f.goal in (

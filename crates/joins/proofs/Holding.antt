@@ -5,7 +5,8 @@ use Prim.Native.Nat.{ℕ, ◌+◌, ◌-◌, ◌*◌, ◌^◌, ◌≤◌, ◌<◌
 use native.Mathlib.Omega.{arith}
 use lib.ListN.{length, drop}
 use Rattle.std.proofs.lemmas.Bool.Decides.{nat_tests}
-use Rattle.std.specs.Prelude.{Option, Some, None, IsSome}
+use Rattle.std.specs.Prelude.{Result, Some, None, IsOk}
+use Rattle.std.specs.Result.{result_ok}
 use Rattle.theory.specs.Sums.{Every}
 use Rattle.theory.specs.Focal.{weights}
 use Rattle.theory.specs.declared.Focal.{Focal}
@@ -66,14 +67,14 @@ module _ {out₀ out : List ℕ} {m : ℕ} {l : List Focal} (h : Held out₀ out
 
   -- One insertion of p: what it answers,
   module _ (p : Focal) where
-    pub held_room : {o : Option ℕ} → length (inserted p l) ≤ most_intervals → o ≡ insertion_of p (records m out) → IsSome o
+    pub held_room : {o : Result ℕ ℕ} → length (inserted p l) ≤ most_intervals → o ≡ insertion_of p (records m out) → IsOk o
     held_room k v = rw (rw view at v) (grind (arith, nat_tests))
 
-    pub held_fits : {n : ℕ} → Some n ≡ insertion_of p (records m out) → length (inserted p l) ≤ most_intervals
-    held_fits {n} v = let a : Some n ≡ insertion_of p l = rw view at v in grind (arith, nat_tests)
+    pub held_fits : {n : ℕ} → Some n ≡ result_ok (insertion_of p (records m out)) → length (inserted p l) ≤ most_intervals
+    held_fits {n} v = let a : Some n ≡ result_ok (insertion_of p l) = rw view at v in grind (arith, nat_tests)
 
-    pub held_over : None ≡ insertion_of p (records m out) → most_intervals < length (inserted p l)
-    held_over v = let a : None ≡ insertion_of p l = rw view at v in grind (arith, nat_tests)
+    pub held_over : None ≡ result_ok (insertion_of p (records m out)) → most_intervals < length (inserted p l)
+    held_over v = let a : None ≡ result_ok (insertion_of p l) = rw view at v in grind (arith, nat_tests)
 
     -- and what it leaves there.
     module _ {e : List ℕ} (bytes : e ≡ holding out (insert_or_stay p (records m out))) where
@@ -94,5 +95,5 @@ module _ {out₀ out : List ℕ} {m : ℕ} {l : List Focal} (h : Held out₀ out
             sum = omega (arith, weights_insert p l);
           }
 
-      pub held_stop : None ≡ insertion_of p (records m out) → e ≡ holding out₀ l
+      pub held_stop : None ≡ result_ok (insertion_of p (records m out)) → e ≡ holding out₀ l
       held_stop v = after (stay_full p l (held_over v)) (omega arith)

@@ -53,9 +53,11 @@ fn join_lists(op: Join, a: Records, b: Records, out: &mut [u8]) -> Option<usize>
         let f = records::focal_in(r);
         let mut first = None;
         let mut place = hint;
-        // No function of its own: of a `Listing` that is lent to it only the length of the bytes would be known there.
+        // A row has no function of its own: its clauses would be the invariant of this loop once more.
         for s in b.records {
-            place = list.insert(join_focals(op, f, records::focal_in(s)), place)?;
+            place = list
+                .insert(join_focals(op, f, records::focal_in(s)), place)
+                .ok()?;
             first = first.or(Some(place));
         }
         hint = first.unwrap_or(hint);
@@ -63,7 +65,8 @@ fn join_lists(op: Join, a: Records, b: Records, out: &mut [u8]) -> Option<usize>
     Some(list.count)
 }
 
-// Joins two lists of a store into its free rest; each is copied first, and has at most BYTES bytes.
+// Joins two lists of a store into its free rest; each is copied first, and has at most BYTES bytes. Store and free byte stand one by one here
+// and below, as in `s[free..]`.
 fn join_sized<const BYTES: usize>(
     op: Join,
     store: &mut [u8],
@@ -78,12 +81,10 @@ fn join_sized<const BYTES: usize>(
     ensures list_length { join_length result ≡ length_of_join (join_in op store.old left right) }
     ensures store_after { store.new ≡ joined_store op store.old left right free }
 {
-    let left_bytes = RECORD_BYTES * left.count;
-    let right_bytes = RECORD_BYTES * right.count;
     let mut a = [0u8; BYTES];
     let mut b = [0u8; BYTES];
-    a[..left_bytes].copy_from_slice(&store[left.start..left.start + left_bytes]);
-    b[..right_bytes].copy_from_slice(&store[right.start..right.start + right_bytes]);
+    a[..RECORD_BYTES * left.count].copy_from_slice(&store[left.range()]);
+    b[..RECORD_BYTES * right.count].copy_from_slice(&store[right.range()]);
     join_lists(
         op,
         Records::new(&a, left.count),

@@ -1,5 +1,5 @@
 // Numbers in bytes, each most significant byte first.
-// Where a number is cast there is no `From`, and the check proves that nothing is lost.
+// Where a number is cast there is no `From`, a `TryFrom` would never fail, and the check proves that nothing is lost.
 #![tactic(auto)]
 
 ghost use Rattle.std.specs.Prelude.{◌≡◌, ◌++◌, ◌+◌, ◌*◌, ◌≤◌, length, take, drop};
@@ -13,7 +13,8 @@ pub fn read_number(s: &[u8], at: usize, n: usize) -> u64
     requires n_bound { n ≤ 8 }
     ensures { result ≡ number_at s.now at n }
 {
-    // Not `from_be_bytes`: a power by which a field is read comes from the table, as document 02 asks.
+    // Not `from_be_bytes`: a power by which a field is read comes from the table, as document 02 asks. Where the width is fixed, as in records,
+    // plans and demands, it is this function too: its laws serve every width.
     let base = powers::pow2(8);
     let mut acc: u64 = 0;
     for x in &s[at..at + n] {
@@ -22,13 +23,14 @@ pub fn read_number(s: &[u8], at: usize, n: usize) -> u64
     acc
 }
 
-// Writes the last n bytes of v from `at` on, most significant first: records, answers, and plans as bytes; fields of a sheet are written by crate field.
+// Writes the last n bytes of v from `at` on, most significant first: records, answers, and plans as bytes; fields of a sheet are written by
+// crate field.
 pub fn write_number(s: &mut [u8], at: usize, n: usize, v: u64)
     requires { at + n ≤ length s.old }
     ensures { s.new ≡ take at s.old ++ (big_endian n v ++ drop (at + n) s.old) }
 {
     let mut x = v;
-    // Not `to_be_bytes`: n is any number. The place counts from `at`, so that the compiler makes one store of it at a constant n.
+    // Not `to_be_bytes`: n is any number. By place, and not over `&mut s[at..at + n]`: where n is a constant, the compiler makes one store of it.
     for i in (0..n).rev() {
         s[at + i] = (x % 256) as u8;
         x /= 256;

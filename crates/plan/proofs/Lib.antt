@@ -5,3 +5,4 @@ pub mod Numbers
 pub mod Entries
 pub mod Components
 pub mod Valid
+pub mod Zeros

@@ -6,10 +6,11 @@ ghost use Rattle.theory.specs.Codes.{entry_of};
 ghost use Rattle.theory.specs.Limits.{most_components, most_held, entry_count};
 ghost use Rattle.theory.specs.Refusals.{number_in};
 ghost use Rattle.plan.specs.Tests.{first_broken};
-ghost use Rattle.plan.specs.Plan.{components_of, codes_of, zero_plan};
+ghost use Rattle.plan.specs.Plan.{components_of, codes_of, entries_of};
 ghost use Rattle.plan.specs.Rules.{rule4, bad_alone, after, bad_interval, bad_intervals, bad_sum, bad_entry, rule9, bad_naming, rule10, rule11};
 ghost use Rattle.plan.specs.Rules.{flaws_of, either_flaws, flaws_in, flaw_tests, structure_tests, Counted, AllHeld};
 
+use std::ops::{BitOr, BitOrAssign};
 use theory::{
     Component, Entry, Focal, HeldComponent, MOST_COMPONENTS, MOST_ENTRIES, MOST_HELD, MOST_TOTAL,
     Refusal, TOP_SPEED,
@@ -18,7 +19,7 @@ use theory::{
 // The components of a drive and its structure: the first `count` components and the first 2 `count` - 1 entries are in use.
 // The entries are the sheet's codes: each code stands for one entry, but not each entry has a code of its own, as component 8 would have
 // that of series. `count` may be above six until rule 3 has looked: a maker's plan is refused by number, so it keeps arrays and a count.
-#[derive(Clone, Copy)]
+#[derive(Clone, Copy, Default)]
 pub struct Plan {
     pub components: [Component; MOST_COMPONENTS],
     pub count: usize,
@@ -26,18 +27,8 @@ pub struct Plan {
 }
 
 impl Plan {
-    // A plan of zeros: what a refused sheet reads as. Callers need it as an equation, which a derived `Default` does not promise.
-    pub fn zeros() -> Plan
-        ensures { result ≡ zero_plan }
-    {
-        Plan {
-            components: [Component::default(); MOST_COMPONENTS],
-            count: 0,
-            entries: [0; MOST_ENTRIES],
-        }
-    }
-
-    // The components in use.
+    // The components in use. That there are at most six, or 1 to 6, is a clause here and below: a type for it would be made by the reader and by
+    // the writer, and taken apart at each use.
     pub fn used_components(&self) -> &[Component]
         requires { self.now.count ≤ most_components }
         ensures { result.now ≡ components_of self.now }
@@ -106,7 +97,7 @@ fn bad_interval(c: &Component, j: usize) -> bool
     bad_alone(c.focal_at(j)) || 0 < j && !is_after(c.focal_at(j - 1), c.focal_at(j))
 }
 
-// Rule 7 of a component.
+// Rule 7 of a component. By place: an interval's three numbers lie in three arrays, as document 01 has them.
 fn bad_intervals(c: HeldComponent) -> bool
     ensures { result ≡ bad_intervals c.entry.component.now }
 {
@@ -144,28 +135,40 @@ impl Flaws {
         }
     }
 
-    // These flaws and others together.
-    pub fn or(self, other: Flaws) -> Flaws
-        ensures { result ≡ either_flaws self other }
-    {
-        Flaws {
-            total: self.total || other.total,
-            intervals: self.intervals || other.intervals,
-            weights: self.weights || other.weights,
-        }
-    }
-
     // The flaws of several components.
     pub fn of_all(components: &[Component]) -> Flaws
         requires { AllHeld components.now }
         ensures { result ≡ flaws_in components.now }
     {
         let mut flaws = Flaws::default();
-        // No `fold`: it proves, with a proof twice as long.
+        // Not by `fold`: that is proved too, with a proof twice as long.
         for c in components {
-            flaws = flaws.or(Flaws::of(HeldComponent::new(c)));
+            flaws |= Flaws::of(HeldComponent::new(c));
         }
         flaws
+    }
+}
+
+// Two components' flaws together.
+impl BitOr for Flaws {
+    type Output = Flaws;
+
+    ghost bitor_gives = { λ a b result. result ≡ either_flaws a b };
+
+    fn bitor(self, other: Flaws) -> Flaws {
+        Flaws {
+            total: self.total || other.total,
+            intervals: self.intervals || other.intervals,
+            weights: self.weights || other.weights,
+        }
+    }
+}
+
+impl BitOrAssign for Flaws {
+    ghost bitor_assign_gives = { λ a b result. result ≡ either_flaws a b };
+
+    fn bitor_assign(&mut self, other: Flaws) {
+        *self = *self | other;
     }
 }
 
@@ -179,14 +182,14 @@ fn bad_entry(n: usize, code: u16) -> bool
     }
 }
 
-// Rule 9.
+// Rule 9. Here and below n stands beside the codes, and no `Plan`: the rules are asked of a structure.
 fn bad_entries(codes: &[u16], n: usize) -> bool
     ensures { result ≡ rule9 n (map entry_of codes.now) }
 {
     codes.iter().any(|code| bad_entry(n, *code))
 }
 
-// Rule 10 of component i. No join has the code of a component that there can be.
+// Rule 10 of component i. Codes are compared as numbers: those of the joins, 8 to 10, are no component's, 0 to 5.
 fn bad_naming(codes: &[u16], i: usize) -> bool
     requires { i < most_components }
     ensures { result ≡ bad_naming (map entry_of codes.now) i }
@@ -194,7 +197,7 @@ fn bad_naming(codes: &[u16], i: usize) -> bool
     codes.iter().filter(|code| usize::from(**code) == i).count() != 1
 }
 
-// Rule 10. Here and below n is a number with a clause: a type for it would be made and unmade at each call.
+// Rule 10.
 fn bad_names(codes: &[u16], n: usize) -> bool
     requires { n ≤ most_components }
     ensures { result ≡ rule10 n (map entry_of codes.now) }
@@ -217,15 +220,18 @@ fn bad_joins(codes: &[u16]) -> bool
     false
 }
 
-// The rules 6 to 11 in their order, of a structure of n components that have these flaws: its codes in use.
-pub fn test_rules(flaws: Flaws, codes: &[u16], n: usize) -> Result<(), Refusal>
-    requires { n ≤ most_components }
-    ensures { number_in result ≡ first_broken (flaw_tests flaws ++ structure_tests n (map entry_of codes.now)) }
-{
-    Refusal::Total.when(flaws.total)?;
-    Refusal::Interval.when(flaws.intervals)?;
-    Refusal::Weights.when(flaws.weights)?;
-    Refusal::Entry.when(bad_entries(codes, n))?;
-    Refusal::Naming.when(bad_names(codes, n))?;
-    Refusal::Joins.when(bad_joins(codes))
+impl Plan {
+    // The rules 6 to 11 in their order, where the components have these flaws.
+    pub fn test_rules(&self, flaws: Flaws) -> Result<(), Refusal>
+        requires { Counted self.now.count }
+        ensures { number_in result ≡ first_broken (flaw_tests flaws ++ structure_tests self.now.count (entries_of self.now)) }
+    {
+        let codes = self.used_codes();
+        Refusal::Total.when(flaws.total)?;
+        Refusal::Interval.when(flaws.intervals)?;
+        Refusal::Weights.when(flaws.weights)?;
+        Refusal::Entry.when(bad_entries(codes, self.count))?;
+        Refusal::Naming.when(bad_names(codes, self.count))?;
+        Refusal::Joins.when(bad_joins(codes))
+    }
 }

@@ -18,7 +18,7 @@ use theory::{MOST_DEMANDS, Refusal, THOUSANDTHS};
 pub const SHARES_BYTES: usize = 16;
 
 // Belief and plausibility of a list at a demand, over the sum of its weights.
-#[derive(Clone, Copy)]
+#[derive(Clone, Copy, Default, PartialEq, Eq)]
 pub struct Shares {
     pub belief: u64,
     pub plausibility: u64,
@@ -31,7 +31,8 @@ fn counted(end: u16, weight: u64, demand: u64) -> u64
     if demand <= u64::from(end) { weight } else { 0 }
 }
 
-// Belief and plausibility of a list at a demand.
+// Belief and plausibility of a list at a demand. That the weights fit 64 bits together is a clause here and below: a type of such lists would
+// be made in each call and say no more.
 pub fn shares_at(list: Records, demand: u64) -> Shares
     requires { Summable (records_of list) }
     ensures { result ≡ shares_of demand (records_of list.entry) }
@@ -95,8 +96,9 @@ fn target_met(share: u64, target: u32, total: u64) -> bool
     quotient + rest.div_ceil(THOUSANDTHS) <= share
 }
 
-// The speed for a target, 0 where no low meets it. The lows of the list are tried from the front, the fastest first, and the first that
-// meets the target ends the search. Records with one low are tried one after the other: the low, and so the answer, is the same.
+// The speed for a target, 0 where no low meets it: no Option, since a drive always reaches 0, and so every target is met there. The lows of the
+// list are tried from the front, the fastest first, and the first that meets the target ends the search. Records with one low are tried one
+// after the other: the low, and so the answer, is the same.
 pub fn speed_for(list: Records, target: u32, total: u64) -> u64
     requires { Searchable (records_of list) target total }
     ensures { result ≡ speed_for target total (records_of list.entry) }

@@ -1,5 +1,5 @@
 // A sheet read: its plan, or the refusal.
-// Where a number is cast there is no `From`, and the check proves that nothing is lost.
+// Where a number is cast there is no `From`, a `TryFrom` would never fail, and the check proves that nothing is lost.
 #![tactic(auto)]
 
 ghost use Rattle.std.specs.Prelude.{◌≡◌, ◌+◌, ◌*◌, ◌≤◌, length, IfOk, Some};
@@ -16,7 +16,8 @@ use reader::Reader;
 use theory::{Component, HeldComponent, MOST_COMPONENTS, MOST_ENTRIES, Refusal};
 
 // The blocks of a sheet, read in turn, where none is cut short: the components, in a row of six (no heap), whether a bit named zero is one
-// (number 5), which of the rules 6, 7 and 8 some component breaks, and the byte behind the last block.
+// (number 5; a flag, since number 4 of a later block comes first), which of the rules 6, 7 and 8 some component breaks, and the byte behind
+// the last block.
 #[derive(Clone, Copy)]
 pub struct Blocks {
     pub components: [Component; MOST_COMPONENTS],
@@ -42,7 +43,7 @@ fn read_head(sheet: &[u8]) -> Result<usize, Refusal>
 }
 
 // The first n blocks of a sheet; none where one is cut short. Each is read from its own start, as a part of the sheet, and its component is
-// tested at once.
+// tested at once. That n is at most six is a clause here and below: a type for it would be made at one place and taken apart at each other.
 fn read_blocks(sheet: &[u8], n: usize) -> Option<Blocks>
     requires { (n ≤ most_components) × (head_bytes ≤ length sheet.now) }
     ensures { result ≡ blocks_in sheet.now n }
@@ -54,7 +55,7 @@ fn read_blocks(sheet: &[u8], n: usize) -> Option<Blocks>
     for component in &mut components[..n] {
         let b = block::read_block(&sheet[end..])?;
         nonzero |= b.nonzero;
-        flaws = flaws.or(Flaws::of(HeldComponent::new(&b.component)));
+        flaws |= Flaws::of(HeldComponent::new(&b.component));
         end += b.size;
         *component = b.component;
     }
@@ -66,7 +67,7 @@ fn read_blocks(sheet: &[u8], n: usize) -> Option<Blocks>
     })
 }
 
-// The m codes from bit `place` on.
+// The m codes from bit `place` on. Buffer, place and count stand one by one, as in `s[i..j]`.
 fn read_entries(sheet: &[u8], place: usize, m: usize) -> [u16; MOST_ENTRIES]
     requires { (m ≤ most_entries) × (place + entry_bits * m ≤ 8 * length sheet.now) × (place + entry_bits * m ≤ 65536) }
     ensures { result ≡ entries_at sheet.now place m }
@@ -110,6 +111,6 @@ pub fn read_sheet(sheet: &[u8]) -> Result<Plan, Refusal>
         count: n,
         entries,
     };
-    plan::test_rules(flaws, p.used_codes(), n)?;
+    p.test_rules(flaws)?;
     Ok(p)
 }

@@ -11,7 +11,7 @@ use borrow.Rule.Slice.PartMut.{put_mid}
 use Rattle.std.proofs.lemmas.Slice.{take-put_mid_below}
 use borrow.Author.Tests.{le-leb, lt-leb, lt-ltb, ltb-true}
 use Rattle.std.proofs.lemmas.Bool.{and_parts}
-use Rattle.std.specs.Prelude.{◌≢◌, Option, Some, None}
+use Rattle.std.specs.Prelude.{◌≢◌, Result, Ok, Err}
 use Rattle.std.specs.List.{copy_within}
 use Rattle.theory.specs.Focal.{weights, no_focal}
 use Rattle.theory.specs.declared.Focal.{Focal}
@@ -70,7 +70,7 @@ moved_on s u a m h e =
     ∙ rw (append-nil, take-add) (sym (append_assoc (take a s) (take 12 d) rest))
 
 -- What an insertion of f into the n records of s answers, and what it leaves: the bytes, and the length.
-abbrev pub Inserted : ℕ → List ℕ → Focal → Option ℕ → List ℕ → ℕ → Type 0
+abbrev pub Inserted : ℕ → List ℕ → Focal → Result ℕ ℕ → List ℕ → ℕ → Type 0
 Inserted n s f answer e count =
     let after : List Focal = insert_or_stay f (records n s) in
     (answer ≡ insertion_of f (records n s)) × (e ≡ holding s after) × (count ≡ length after)
@@ -104,10 +104,10 @@ module _ {n : ℕ} {s : List ℕ} (f : Focal) (r : Insertable s n f.weight) (u :
     met_is : met ≡ (ltb p n && compare_is_eq (order (interval_at l p) f))
     met_is = λ i. ltb p (size i) && compare_is_eq (order (interval_at (read i) p) (key_back i))
 
-    answer_is : (m : ℕ) → length (inserted f l) ≡ m → m ≤ most_intervals → (e : List ℕ) → e ≡ holding s (inserted f l) → Inserted n s f (Some p) e m
+    answer_is : (m : ℕ) → length (inserted f l) ≡ m → m ≤ most_intervals → (e : List ℕ) → e ≡ holding s (inserted f l) → Inserted n s f (Ok p) e m
     answer_is m e h t k =
         let stay : insert_or_stay f l ≡ inserted f l = stay_fits f l (omega (arith, e)) in
-        (rw (le-leb (length (inserted f l)) most_intervals (omega arith)) (ap Some is_placed), k ∙ ap (holding s) (sym stay), sym (ap length stay ∙ e))
+        (rw (le-leb (length (inserted f l)) most_intervals (omega arith)) (ap Ok is_placed), k ∙ ap (holding s) (sym stay), sym (ap length stay ∙ e))
 
     -- It is. Then its weight is added.
     module _ {t : Bool} (te : t ≡ met) (yes : t ≡ true) {old : Focal} (oe : old ≡ head_record (get_or list.records.now p [])) where
@@ -126,7 +126,7 @@ module _ {n : ℕ} {s : List ℕ} (f : Focal) (r : Insertable s n f.weight) (u :
             sum_take (λ (f : Focal). f.weight) (p + 1) l,
           )
 
-      pub insert_at : let sum = with_weight f (f.weight + old.weight) in Inserted n s f (Some p) (with_record s p sum) n
+      pub insert_at : let sum = with_weight f (f.weight + old.weight) in Inserted n s f (Ok p) (with_record s p sum) n
       insert_at =
           let h : p < n = there.0 in
           let sum : Focal = with_weight f (f.weight + old.weight) in
@@ -158,7 +158,7 @@ module _ {n : ℕ} {s : List ℕ} (f : Focal) (r : Insertable s n f.weight) (u :
           ∙ rw (length-take-le p l (rw length-records within), length-drop, length-records) (omega (arith, within))
 
       pub insert_in : n ≢ most_intervals → (t : List ℕ) → t ≡ copy_within (take (length s - 12 * p) (drop (12 * p) s)) 0 (12 * n - 12 * p) 12
-          → Inserted n s f (Some p) (with_record (put_mid (12 * p) (length s - 12 * p) s t) p f) (n + 1)
+          → Inserted n s f (Ok p) (with_record (put_mid (12 * p) (length s - 12 * p) s t) p f) (n + 1)
       insert_in m part e =
           let h : p ≤ n = within in
           let t : List ℕ = put_mid (12 * p) (length s - 12 * p) s part in
@@ -174,8 +174,8 @@ module _ {n : ℕ} {s : List ℕ} (f : Focal) (r : Insertable s n f.weight) (u :
           ∙ spread (take p l) f (drop p l) (drop (12 * (n + 1)) s)
           ∙ (λ k. encode (sym list_is k) ++ drop (12 * sym longer k) s))
 
-      pub insert_over : n ≡ most_intervals → Inserted n s f None s n
+      pub insert_over : n ≡ most_intervals → Inserted n s f (Err p) s n
       insert_over m =
           let full : most_intervals < length (inserted f l) = omega (arith, longer) in
           let stay : insert_or_stay f l ≡ l = stay_full f l full in
-          (rw (lt-leb (length (inserted f l)) most_intervals full), holds n s b fit ∙ ap (holding s) (sym stay), sym (ap length stay ∙ length-records n s))
+          (rw (lt-leb (length (inserted f l)) most_intervals full) (ap Err is_placed), holds n s b fit ∙ ap (holding s) (sym stay), sym (ap length stay ∙ length-records n s))

@@ -1,6 +1,6 @@
 -- "Joins": the place of an interval in a list, and one interval put into a list that stands in a buffer. Assumes nothing.
 use Prim.Native.Nat.{ℕ, suc, ◌+◌, ◌^◌, ◌≤◌, ◌<◌, Ordering}
-use Rattle.std.specs.Prelude.{Bool, true, false, cond, Option, Some, None, List, [], ◌∷◌, leb, length}
+use Rattle.std.specs.Prelude.{Bool, true, false, cond, Result, Ok, Err, List, [], ◌∷◌, leb, length}
 use Rattle.theory.specs.Focal.{weights}
 use Rattle.theory.specs.declared.Focal.{Focal}
 use Rattle.theory.specs.Order.{order, InOrder, inserted}
@@ -18,9 +18,9 @@ abbrev pub place : Focal → List Focal → ℕ
 place f [] = 0
 place f (g ∷ gs) = cond (is_before (order g f)) (suc (place f gs)) 0
 
--- What an insertion answers: the place; nothing for a 257th interval.
-abbrev pub insertion_of : Focal → List Focal → Option ℕ
-insertion_of f l = cond (leb (length (inserted f l)) most_intervals) (Some (place f l)) None
+-- What an insertion answers: the place; as an error, for a 257th interval.
+abbrev pub insertion_of : Focal → List Focal → Result ℕ ℕ
+insertion_of f l = cond (leb (length (inserted f l)) most_intervals) (Ok (place f l)) (Err (place f l))
 
 -- A list has at most 256 intervals: a 257th leaves it as it is.
 abbrev pub insert_or_stay : Focal → List Focal → List Focal

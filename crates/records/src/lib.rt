@@ -1,9 +1,9 @@
 // Lists of intervals in a buffer that the caller lends: records of 12 bytes, low 16 bits, high 16 bits, weight 64 bits, each most
 // significant byte first. Low and high as one number are a record's key.
-// Where a number is cast there is no `From`, and the check proves that nothing is lost.
+// Where a number is cast there is no `From`, a `TryFrom` would never fail, and the check proves that nothing is lost.
 #![tactic(auto)]
 
-ghost use Rattle.std.specs.Prelude.{◌≡◌, ◌+◌, ◌*◌, ◌/◌, ◌≤◌, ◌&&◌, ltb, min, length};
+ghost use Rattle.std.specs.Prelude.{◌≡◌, ◌+◌, ◌*◌, ◌/◌, ◌^◌, ◌≤◌, ◌<◌, ◌&&◌, ltb, min, length};
 ghost use Rattle.std.proofs.Math.Dec.{compare_is_eq};
 ghost use Rattle.theory.specs.Order.{order, InOrder};
 ghost use Rattle.theory.specs.Limits.{record_bytes};
@@ -14,20 +14,23 @@ ghost use Rattle.records.specs.Insertion.{is_before, place, insertion_of, insert
 
 mod view;
 
+use std::ops::Range;
 use theory::{Focal, MOST_INTERVALS, RECORD_BYTES};
 pub use view::{Record, Records};
 
 // Low and high take 16 bits each: a key is low * SPEED_LIMIT + high.
-const SPEED_LIMIT: u64 = 65536;
+pub const SPEED_LIMIT: u64 = 65536;
 
-// The key of an interval.
-fn key_of(f: Focal) -> u64
+// The key of an interval. A number, and not the pair (low, high), which is ordered alike: a record's key is one load, and two keys are one
+// comparison.
+pub fn key_of(f: Focal) -> u64
     ensures { result ≡ key_of f }
 {
     u64::from(f.low) * SPEED_LIMIT + u64::from(f.high)
 }
 
-// The interval of a record. Each number is one load; the weight is taken in two halves of 32 bits, so that it is loads too.
+// The interval of a record. Each number is one load; the weight is taken in two halves of 32 bits, so that it is loads too. No `From`: a record
+// is an array.
 pub fn focal_in(bytes: &Record) -> Focal
     ensures { result ≡ head_record bytes.now }
 {
@@ -74,14 +77,16 @@ impl<'a> Records<'a> {
         Records::first(bytes, count.min(bytes.len() / RECORD_BYTES))
     }
 
-    // Whether there is a record i, and it is the interval of the key.
+    // Whether there is a record i, and it is the interval of the key. Asked once, behind the search, whose steps tell two cases, where
+    // `binary_search_by` would tell three.
     fn matches(&self, i: usize, key: u64) -> bool
         ensures { result ≡ (ltb i (length self.now.records.now) && compare_is_eq (order (interval_at (records_of self.now) i) (keyed key 0))) }
     {
         i < self.records.len() && key_in(&self.records[i]) == key
     }
 
-    // The place of the key's interval, which lies from `from` to `to`.
+    // The place of the key's interval, which lies from `from` to `to`; these stand one by one here and below, as in `s[from..to]`. Order is a
+    // clause here and below, and no field of `Records`: `new` takes any bytes.
     fn bisect(&self, key: u64, from: usize, to: usize) -> usize
         requires in_order { InOrder (records_of self.now) }
         requires between { (from ≤ place (keyed key 0) (records_of self.now)) × (place (keyed key 0) (records_of self.now) ≤ to) × (to ≤ length self.now.records.now) }
@@ -90,7 +95,9 @@ impl<'a> Records<'a> {
         from + self.records[from..to].partition_point(|r| precedes(r, key))
     }
 
-    // The place of the key's interval. The hint is any number: where it is that of a record, the search begins there.
+    // The place of the key's interval. The hint is any number, and no Option, since it is tested against the length anyway: where it is that
+    // of a record, the search begins there. By hand: by `partition_point` alone, as tried, the call for a chair takes a third longer, and 128
+    // intervals joined to 128 four times as long.
     #[tactic(auto, using(crate::proofs::Place::place_count))]
     fn find(&self, key: u64, hint: usize) -> usize
         requires { InOrder (records_of self.now) }
@@ -142,10 +149,10 @@ fn write_record(s: &mut [u8], i: usize, f: Focal)
 }
 
 impl<'a> Listing<'a> {
-    // Puts an interval with its weight into the list, and answers its place: an equal interval gets the weight added. None where the list
-    // would then have 257: all bytes stay as they are.
+    // Puts an interval with its weight into the list, and answers its place: an equal interval gets the weight added. Where the list would
+    // then have 257, all bytes stay as they are; the place is answered then too, as an error, and so it is no Option.
     #[tactic(auto, using(crate::proofs::Place::place_in))]
-    pub fn insert(&mut self, f: Focal, hint: usize) -> Option<usize>
+    pub fn insert(&mut self, f: Focal, hint: usize) -> Result<usize, usize>
         requires { Insertable self.old.bytes.now self.old.count f.weight }
         ensures value { result ≡ insertion_of f (records self.old.count self.old.bytes.now) }
         ensures bytes { self.new.bytes.now ≡ holding self.old.bytes.now (insert_or_stay f (records self.old.count self.old.bytes.now)) }
@@ -165,17 +172,17 @@ impl<'a> Listing<'a> {
                 ..f
             };
             write_record(bytes, place, sum);
-            return Some(place);
+            return Ok(place);
         }
         if n == MOST_INTERVALS {
-            return None;
+            return Err(place);
         }
         let at = RECORD_BYTES * place;
         // Within the bytes from `at` on, so that the distance is a constant: the compiler makes one `memmove` of it then.
         bytes[at..].copy_within(..RECORD_BYTES * n - at, RECORD_BYTES);
         write_record(bytes, place, f);
         self.count = n + 1;
-        Some(place)
+        Ok(place)
     }
 }
 
@@ -184,6 +191,16 @@ impl<'a> Listing<'a> {
 pub struct Span {
     pub start: usize,
     pub count: usize,
+}
+
+impl Span {
+    // Its bytes in the store.
+    pub fn range(self) -> Range<usize>
+        requires { self.start + record_bytes * self.count < 2 ^ 64 }
+        ensures { result ≡ record { start = self.start; end = self.start + record_bytes * self.count } }
+    {
+        self.start..self.start + RECORD_BYTES * self.count
+    }
 }
 
 // Makes the bytes from `from` up to `to` zero.
@@ -199,7 +216,6 @@ pub fn settle(store: &mut [u8], list: Span, end: usize)
     requires { (list.start + record_bytes * list.count ≤ end) × (end ≤ length store.old) }
     ensures { store.new ≡ settled end (list_of_span store.old list) store.old }
 {
-    let bytes = RECORD_BYTES * list.count;
-    store.copy_within(list.start..list.start + bytes, 0);
-    clear(store, bytes, end);
+    store.copy_within(list.range(), 0);
+    clear(store, RECORD_BYTES * list.count, end);
 }

@@ -1,4 +1,4 @@
-// A list that is read where it stands. The struct has a file of its own: its ghost field must not lead back to what names it.
+// A list that is read where it stands. The struct has a file of its own: what its ghost field names may not lead back to the file that declares it.
 
 ghost use Rattle.records.specs.Bytes.{AllBytes};
 

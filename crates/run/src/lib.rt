@@ -1,5 +1,5 @@
 // The run of a plan in a store that the caller lends: its entries one after the other, on a stack of lists.
-// Where a number is cast there is no `From`, and the check proves that nothing is lost.
+// Where a number is cast there is no `From`, a `TryFrom` would never fail, and the check proves that nothing is lost.
 #![tactic(auto)]
 
 ghost use Rattle.std.specs.Prelude.{◌≡◌, ◌+◌, ◌*◌, ◌^◌, ◌<◌};
@@ -12,7 +12,8 @@ use records::Span;
 use theory::{Entry, HeldComponent, Join, MOST_COMPONENTS, RECORD_BYTES, Refusal, STORE_BYTES};
 
 // The lists on the stack, the first `depth` in use; the byte behind them all; the pairs formed so far. No heap: a vector of fixed capacity in
-// place of array and depth would be as long, with two unwraps and a further crate in what C links.
+// place of array and depth would be as long, with two unwraps and a further crate in what C links. The store stands beside it: a stack is a
+// plain value in the definitions.
 #[derive(Clone, Copy, Default)]
 pub struct Stack {
     pub lists: [Span; MOST_COMPONENTS],
@@ -28,7 +29,7 @@ pub struct Run {
     pub intervals: usize,
 }
 
-// The bytes of the store that a plan of n components needs.
+// The bytes of the store that a plan of n components needs: the same for every n.
 pub fn store_for(n: usize) -> usize
     ensures { result ≡ store_for n }
 {

@@ -10,7 +10,7 @@ use lib.ListN.{length, take, drop, replicate}
 use lib.Seq.{take_at, drop_at}
 use borrow.Author.Tests.{lt-ltb, le-ltb, ltb-true, ltb-false}
 use Rattle.std.specs.Prelude.{Result, Ok, Err}
-use Rattle.std.specs.Result.{result_unwrap_or}
+use Rattle.std.specs.Result.{ResultUnwrapsOrElse}
 use Rattle.theory.specs.Sums.{Every, more}
 use Rattle.theory.specs.declared.Refusal.{Refusal}
 use Rattle.theory.specs.Refusals.{refusal_number, number_in}
@@ -19,6 +19,7 @@ use Rattle.theory.proofs.Every.{every_split}
 use Rattle.numbers.specs.Numbers.{big_endian}
 use Rattle.plan.specs.declared.Plan.{Plan}
 use Rattle.plan.specs.Plan.{zero_plan, cleaned_plan}
+use Rattle.plan.proofs.Zeros.{ByDefault, default_is_zero}
 use Rattle.plan.specs.Tests.{test, first_broken, Unbroken, First}
 use Rattle.plan.proofs.Numbers.{accepted_by, refused_by, first_found, first_then}
 use Rattle.reading.specs.Reading.{Reading, sheet_tests, reading_as, read_of}
@@ -40,9 +41,9 @@ number_is : (r : Result Plan Refusal) → number_in r ≡ (reading_as r).number
 number_is (Ok p) = refl
 number_is (Err e) = rw (above_zero e).1 refl
 
-plan_is : (r : Result Plan Refusal) → result_unwrap_or r zero_plan ≡ (reading_as r).plan
-plan_is (Ok q) = refl
-plan_is (Err e) = rw (above_zero e).1 refl
+plan_is : (r : Result Plan Refusal) {p : Plan} → ResultUnwrapsOrElse r ByDefault p → p ≡ (reading_as r).plan
+plan_is (Ok q) h = h
+plan_is (Err e) h = rw (above_zero e).1 (default_is_zero _ h)
 
 module _ (sheet buffer : List ℕ) where
   pub buffer_short : length buffer < plan_bytes
@@ -72,9 +73,9 @@ module _ (sheet buffer : List ℕ) where
   pub read_accepts : (read_of sheet).number ≡ 0 → plan_bytes ≤ length buffer → 0 ≡ read_number sheet buffer
   read_accepts e h = sym ((buffer_long h).0 ∙ e)
 
-  pub plan_written : (r : Result Plan Refusal) → reading_as r ≡ read_of sheet → plan_bytes ≤ length buffer
-      → encode_plan (result_unwrap_or r zero_plan) ++ drop plan_bytes buffer ≡ plan_after sheet buffer
-  plan_written r e h = sym ((buffer_long h).1 ∙ rw (← e, ← plan_is r) refl)
+  pub plan_written : (r : Result Plan Refusal) (p : Plan) → reading_as r ≡ read_of sheet → ResultUnwrapsOrElse r ByDefault p → plan_bytes ≤ length buffer
+      → encode_plan p ++ drop plan_bytes buffer ≡ plan_after sheet buffer
+  plan_written r p e u h = sym ((buffer_long h).1 ∙ rw (← e, ← plan_is r u) refl)
 
   sheet_accepted : (read_number sheet buffer ≡ 0) ↔ Every Unbroken (read_call_tests sheet buffer)
   unfolding read_number
@@ -122,4 +123,4 @@ module _ (sheet buffer : List ℕ) where
   }
 
 -- What the reader goes by.
-pub ruleset read_steps = (short_kept, short_read, read_refuses, read_accepts, plan_written)
+pub ruleset read_steps = (short_kept, short_read, read_refuses, read_accepts)

@@ -1,12 +1,11 @@
 // The writer and the reader for C hosts, on byte slices: a plan as bytes to a sheet, and a sheet to a plan as bytes.
-// Where a number is cast there is no `From`, and the check proves that nothing is lost.
+// Where a number is cast there is no `From`, a `TryFrom` would never fail, and the check proves that nothing is lost.
 #![tactic(auto)]
 
 ghost use Rattle.std.specs.Prelude.{◌≡◌};
 ghost use Rattle.theory.specs.Refusals.{number_in};
 ghost use Rattle.sheets.specs.Sheets.{write_number, sheet_after, length_after, read_number, plan_after};
 
-use plan::Plan;
 use theory::Refusal;
 
 // The bytes that the length of a sheet takes in the writer's answer.
@@ -26,6 +25,7 @@ pub fn write_from_bytes(plan: &[u8], sheet: &mut [u8], answer: &mut [u8]) -> Res
         return Err(Refusal::Store);
     }
     let written = writing::write_sheet(p, sheet);
+    // Its length, 0 where it is refused, as the header promises C.
     numbers::write_number(answer, 0, LENGTH_BYTES, written.unwrap_or(0) as u64);
     written?;
     Ok(())
@@ -42,7 +42,7 @@ pub fn read_to_bytes(sheet: &[u8], plan: &mut [u8]) -> Result<(), Refusal>
         reading?;
         return Err(Refusal::Store);
     }
-    wire::encode_plan(plan, reading.unwrap_or(Plan::zeros()));
+    wire::encode_plan(plan, reading.unwrap_or_default());
     reading?;
     Ok(())
 }

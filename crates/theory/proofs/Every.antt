@@ -1,8 +1,11 @@
 -- Laws of a property of each element of a list. Assumes nothing.
 use Prim.Native.Nat.{ℕ, zero, suc, ◌<◌}
+use mathlib.Core.Path.{◌≡◌, sym, ◌∙◌}
 use mathlib.Core.List.{List, [], ◌∷◌, ◌++◌, map}
 use native.Mathlib.Omega.{arith}
 use lib.ListN.{length, get_or, replicate, set}
+use Rattle.std.specs.Array.{AllOfLen}
+use Rattle.std.proofs.lemmas.List.{length-replicate, get_or-replicate, ext_get_or}
 use Rattle.theory.specs.Sums.{for_each, one_of_each, Every}
 
 pub every_map : {A : Type 0} {P Q : A → Type 0} → ((x : A) → P x → Q x) → {xs : List A} → Every P xs → Every Q xs
@@ -54,3 +57,9 @@ pub every_set : {A : Type 0} {P : A → Type 0} {xs : List A} {x : A} → Every 
 every_set Every.none i h = Every.none
 every_set (Every.more p r) zero h = Every.more h r
 every_set (Every.more p r) (suc i) h = Every.more p (every_set r i h)
+
+-- An array by default: each of its elements is the same.
+pub all_alike : {A : Type 0} {P : A → Type 0} (z : A) → ((x : A) → P x → x ≡ z) → {xs : List A} (n : ℕ) → AllOfLen P xs n → xs ≡ replicate n z
+all_alike z h {xs} n a =
+    ext_get_or z xs (replicate n z) (a.long ∙ sym (length-replicate n z))
+    (λ i l. h _ (a.at i z (rw a.long at l)) ∙ sym (get_or-replicate n i z z (rw a.long at l)))

@@ -1,4 +1,4 @@
-// What rule 4 leaves of a component. The struct has a file of its own: its ghost field must not lead back to what names it.
+// What rule 4 leaves of a component. The struct has a file of its own: what its ghost field names may not lead back to the file that declares it.
 
 ghost use Rattle.std.specs.Prelude.{◌≤◌};
 ghost use Rattle.theory.specs.Limits.{most_held};

@@ -1,5 +1,5 @@
-// What specs and code share of a drive: the limits, an interval with its weight, a component, also one that is known to hold at most eight, the entries of a structure with
-// their codes, the joins of two speeds, and the refusals.
+// What specs and code share of a drive: the limits, an interval with its weight, a component, also one that is known to hold at most eight, the
+// entries of a structure with their codes, the joins of two speeds, and the refusals.
 #![tactic(auto)]
 
 ghost use Rattle.std.specs.Prelude.{◌≡◌, ◌≤◌, ◌<◌};
@@ -13,7 +13,7 @@ mod held;
 
 pub use held::HeldComponent;
 
-// The limits: specs/Limits.antt has them with document 01's words.
+// The limits: specs/Limits.antt has them with the words of documents 01 and 02.
 pub const TOP_SPEED: u16 = 4095;
 
 pub const MOST_HELD: usize = 8;
@@ -128,27 +128,27 @@ impl From<u16> for Entry {
     }
 }
 
-// Why a sheet, a plan or a call is refused: specs/Refusals.antt has the numbers, and what breaks each rule stands with its test.
+// Why a sheet, a plan or a call is refused, with its number: what breaks each rule stands with its test.
 #[derive(Clone, Copy, PartialEq, Eq)]
 pub enum Refusal {
-    Length,
-    Edition,
-    ComponentCount,
-    Layout,
-    ZeroBits,
-    Total,
-    Interval,
-    Weights,
-    Entry,
-    Naming,
-    Joins,
-    Store,
-    Allowance,
-    ListLength,
-    SheetRoom,
-    Target,
-    DemandCount,
-    SharesRoom,
+    Length = 1,
+    Edition = 2,
+    ComponentCount = 3,
+    Layout = 4,
+    ZeroBits = 5,
+    Total = 6,
+    Interval = 7,
+    Weights = 8,
+    Entry = 9,
+    Naming = 10,
+    Joins = 11,
+    Store = 12,
+    Allowance = 13,
+    ListLength = 14,
+    SheetRoom = 15,
+    Target = 16,
+    DemandCount = 17,
+    SharesRoom = 18,
 }
 
 impl Refusal {
@@ -165,26 +165,7 @@ impl From<Refusal> for u32 {
     ghost from_gives = { λ refusal number. number ≡ refusal_number refusal };
 
     fn from(refusal: Refusal) -> u32 {
-        match refusal {
-            Refusal::Length => 1,
-            Refusal::Edition => 2,
-            Refusal::ComponentCount => 3,
-            Refusal::Layout => 4,
-            Refusal::ZeroBits => 5,
-            Refusal::Total => 6,
-            Refusal::Interval => 7,
-            Refusal::Weights => 8,
-            Refusal::Entry => 9,
-            Refusal::Naming => 10,
-            Refusal::Joins => 11,
-            Refusal::Store => 12,
-            Refusal::Allowance => 13,
-            Refusal::ListLength => 14,
-            Refusal::SheetRoom => 15,
-            Refusal::Target => 16,
-            Refusal::DemandCount => 17,
-            Refusal::SharesRoom => 18,
-        }
+        refusal as u32
     }
 }
 

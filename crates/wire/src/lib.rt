@@ -1,5 +1,5 @@
 // What C hosts pass as bytes, most significant first: a plan, as numbers of 16 bits at fixed places; the demands of a set, 32 bits each.
-// Where a number is cast there is no `From`, and the check proves that nothing is lost.
+// Where a number is cast there is no `From`, a `TryFrom` would never fail, and the check proves that nothing is lost.
 #![tactic(auto)]
 
 ghost use Rattle.std.specs.Prelude.{◌≡◌, ◌++◌, ◌+◌, ◌*◌, ◌≤◌, length, drop};
@@ -60,7 +60,7 @@ fn components_in<const N: usize>(s: &[u8], i: usize) -> [Component; N]
     array::from_fn(|j| decode_component(s, i + COMPONENT_SIZE * j))
 }
 
-// The plan that the bytes spell.
+// The plan that the bytes spell. No `From`: it asks for enough bytes.
 pub fn decode_plan(s: &[u8]) -> Plan
     requires { plan_bytes ≤ length s.now }
     ensures { result ≡ decode_plan s.now }

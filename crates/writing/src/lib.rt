@@ -1,5 +1,5 @@
 // A plan written as a sheet.
-// Where a number is cast there is no `From`, and the check proves that nothing is lost.
+// Where a number is cast there is no `From`, a `TryFrom` would never fail, and the check proves that nothing is lost.
 #![tactic(auto)]
 
 ghost use Rattle.std.specs.Prelude.{◌≡◌, ◌+◌, ◌*◌, ◌≤◌, map, length, IfOk};
@@ -25,22 +25,25 @@ pub fn test_plan(p: &Plan) -> Result<SizedPlan<'_>, Refusal>
     ensures number { number_in result ≡ first_broken (plan_tests p.now) }
     ensures plan { IfOk result (λ s. s.plan ≡ p.entry) }
 {
-    let n = p.count;
-    Refusal::ComponentCount.when(!(1..=MOST_COMPONENTS).contains(&n))?;
+    Refusal::ComponentCount.when(!(1..=MOST_COMPONENTS).contains(&p.count))?;
     let components = p.used_components();
     Refusal::Layout.when(plan::bad_counts(components))?;
-    plan::test_rules(Flaws::of_all(components), p.used_codes(), n)?;
+    p.test_rules(Flaws::of_all(components))?;
     Ok(SizedPlan { plan: p })
 }
 
-// The codes of a structure, from bit `place` on.
+// The codes of a structure, from bit `place` on. Not by `put_fields`: a row of `Field`s would have to be made of them first.
 #[tactic(auto, using(crate::proofs::Sizes::codes_next), unfolding(field::specs::Fields::put_all))]
 fn put_entries(out: &mut [u8], place: usize, codes: &[u16])
     requires { (place + entry_bits * length codes.now ≤ 8 * length out.old) × (place + entry_bits * length codes.now ≤ 65536) }
     ensures { out.new ≡ put_all out.old place (map (bits entry_bits) codes.now) }
 {
     for (i, code) in codes.iter().enumerate() {
-        field::put_field(out, place + ENTRY_BITS * i, ENTRY_BITS, u32::from(*code));
+        let entry = Field {
+            width: ENTRY_BITS,
+            value: u32::from(*code),
+        };
+        field::put_field(out, place + ENTRY_BITS * i, entry);
     }
 }
 
@@ -95,12 +98,11 @@ impl<'a> SizedPlan<'a> {
         field::put_fields(out, 0, &[edition, count, length]);
         self.put_blocks(out);
         put_entries(out, place, self.plan.used_codes());
-        field::put_field(
-            out,
-            place + ENTRY_BITS * plan::entry_count(n),
-            ENTRY_BITS,
-            0,
-        );
+        let last = Field {
+            width: ENTRY_BITS,
+            value: 0,
+        };
+        field::put_field(out, place + ENTRY_BITS * plan::entry_count(n), last);
     }
 }
 

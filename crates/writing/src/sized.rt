@@ -1,4 +1,4 @@
-// A plan that has a sheet's length. The struct has a file of its own: its ghost field must not lead back to what names it.
+// A plan that has a sheet's length. The struct has a file of its own: what its ghost field names may not lead back to the file that declares it.
 
 ghost use Rattle.plan.specs.Rules.{Sized};
 

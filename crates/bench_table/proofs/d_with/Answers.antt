@@ -1,7 +1,7 @@
 -- `bench_table::d_with` meets its contract. Assumes nothing.
-use Rattle.bench_table.specs.Rows.{D1, D2, D3}
+use Rattle.bench_table.specs.Rows.{D1, D2}
 use Rattle.bench_table.proofs.d_with.Goals as goal
 
 pub returns : goal.returns
-unfolding D1 D2 D3
-returns c = rw (c.sheet.ensures, c.single_speeds-d1.ensures, c.single_speeds-d2.ensures, c.single_speeds-d3.ensures, c.from.ensures)
+unfolding D1 D2
+returns c = rw (c.sheet.ensures, c.single_speeds-d1.ensures, c.single_speeds-d2.ensures, c.single_speeds-d3.ensures)

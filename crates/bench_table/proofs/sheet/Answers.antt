@@ -1,4 +1,5 @@
 -- `bench_table::sheet` meets its contract. Assumes nothing.
+use Rattle.plan.proofs.Zeros.{default_is_zero}
 use Rattle.bench_table.specs.Rows.{chain, sheet_of}
 use Rattle.bench_table.proofs.Rows.{written_within, written_length}
 use Rattle.bench_table.proofs.sheet.Goals as goal
@@ -9,4 +10,4 @@ invariant_of-result c = record { inside = rw (written_length _ _ c.write_sheet.e
 pub returns : goal.returns
 unfolding chain sheet_of
 returns c =
-    rw (written_length _ _ c.write_sheet.ensures.value c.unwrap_or-length.ensures, c.write_sheet.ensures.out_after, c.copy_from_slice.ensures.after, c.zeros.ensures, c.code_of-code.ensures)
+    rw (written_length _ _ c.write_sheet.ensures.value c.unwrap_or-length.ensures, c.write_sheet.ensures.out_after, c.copy_from_slice.ensures.after, default_is_zero _ c.default.ensures, c.code_of-code.ensures)

@@ -33,48 +33,48 @@ module _ (s demands : List ℕ) (allowance : ℕ) (store shares : List ℕ) {n :
   kept : (k : ℕ) → 0 < k → r.number ≡ k → shares ≡ shares_after s demands allowance (length store) shares
   kept k h e = sym (shares_by_end s demands allowance store shares (refuses s allowance store own this k h e))
 
-pub returns-in_err-r-clause-value : goal.returns-in_err-r-clause-value
-returns-in_err-r-clause-value c =
+pub returns-in_err-run-clause-value : goal.returns-in_err-run-clause-value
+returns-in_err-run-clause-value c =
     let a = c.args in
     let p = err_from_is_err_and c.from_residual.result c.from_residual.ensures.1 in
-    let e = c.in_err-r.ensures in
+    let e = c.in_err-run.ensures in
     rw (p.1, p.2) (answered a.sheet.now a.demands.now a.allowance a.store.now a.shares.now c.test_demands-own.ensures e.value e.store_after)
 
-pub returns-in_err-r-clause-store_after : goal.returns-in_err-r-clause-store_after
-returns-in_err-r-clause-store_after c =
+pub returns-in_err-run-clause-store_after : goal.returns-in_err-run-clause-store_after
+returns-in_err-run-clause-store_after c =
     let a = c.args in
-    let e = c.in_err-r.ensures in
+    let e = c.in_err-run.ensures in
     stored a.sheet.now a.demands.now a.allowance a.store.now a.shares.now c.test_demands-own.ensures e.value e.store_after
 
-pub returns-in_err-r-clause-shares_after : goal.returns-in_err-r-clause-shares_after
-returns-in_err-r-clause-shares_after c =
+pub returns-in_err-run-clause-shares_after : goal.returns-in_err-run-clause-shares_after
+returns-in_err-run-clause-shares_after c =
     let a = c.args in
-    let e = c.in_err-r.ensures in
+    let e = c.in_err-run.ensures in
     kept a.sheet.now a.demands.now a.allowance a.store.now a.shares.now c.test_demands-own.ensures e.value e.store_after _ (positive _) refl
 
 pub put_set-requires-clause-summable : goal.put_set-requires-clause-summable
 put_set-requires-clause-summable c =
     let a = c.args in
-    let e = c.in_ok-r.ensures in
+    let e = c.in_ok-run.ensures in
     let call = accepted a.sheet.now a.demands.now a.allowance a.store.now a.shares.now c.test_demands-own.ensures e.value e.store_after refl in
     summable call c.new-list.ensures.inside
 
 pub returns-clause-value : goal.returns-clause-value
 returns-clause-value c =
     let a = c.args in
-    let e = c.in_ok-r.ensures in
+    let e = c.in_ok-run.ensures in
     answered a.sheet.now a.demands.now a.allowance a.store.now a.shares.now c.test_demands-own.ensures e.value e.store_after
 
 pub returns-clause-store_after : goal.returns-clause-store_after
 returns-clause-store_after c =
     let a = c.args in
-    let e = c.in_ok-r.ensures in
+    let e = c.in_ok-run.ensures in
     stored a.sheet.now a.demands.now a.allowance a.store.now a.shares.now c.test_demands-own.ensures e.value e.store_after
 
 pub returns-clause-shares_after : goal.returns-clause-shares_after
 returns-clause-shares_after c =
     let a = c.args in
-    let e = c.in_ok-r.ensures in
+    let e = c.in_ok-run.ensures in
     let call = accepted a.sheet.now a.demands.now a.allowance a.store.now a.shares.now c.test_demands-own.ensures e.value e.store_after refl in
     c.put_set.ensures
     ∙ (shares_asked call c.new-list.ensures.inside a.demands.now a.shares.now

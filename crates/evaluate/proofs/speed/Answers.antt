@@ -24,45 +24,45 @@ module _ (s : List ℕ) (target allowance : ℕ) (store : List ℕ) {n : ℕ} (o
   stored : after ≡ speed_store_after s target allowance store
   stored = this.stored ∙ sym (speed_store_is s target allowance store)
 
-pub returns-in_err-r-clause-value : goal.returns-in_err-r-clause-value
-returns-in_err-r-clause-value c =
+pub returns-in_err-run-clause-value : goal.returns-in_err-run-clause-value
+returns-in_err-run-clause-value c =
     let a = c.args in
     let p = err_from_is_err_and c.from_residual.result c.from_residual.ensures.1 in
-    let e = c.in_err-r.ensures in
+    let e = c.in_err-run.ensures in
     let call = this a.sheet.now a.target a.allowance a.store.now c.test_target.ensures e.value e.store_after in
     rw (p.1, p.2)
     (sym (answer_by a.sheet.now a.target a.allowance a.store.now (refuses a.sheet.now a.allowance a.store.now (target_tests a.target) call _ (positive _) refl)))
 
-pub returns-in_err-r-clause-store_after : goal.returns-in_err-r-clause-store_after
-returns-in_err-r-clause-store_after c =
+pub returns-in_err-run-clause-store_after : goal.returns-in_err-run-clause-store_after
+returns-in_err-run-clause-store_after c =
     let a = c.args in
-    let e = c.in_err-r.ensures in
+    let e = c.in_err-run.ensures in
     stored a.sheet.now a.target a.allowance a.store.now c.test_target.ensures e.value e.store_after
 
 pub speed_for-speed-requires : goal.speed_for-speed-requires
 speed_for-speed-requires c =
     let a = c.args in
-    let e = c.in_ok-r.ensures in
+    let e = c.in_ok-run.ensures in
     let call = accepted a.sheet.now a.target a.allowance a.store.now c.test_target.ensures e.value e.store_after refl in
     searchable call c.new-list.ensures.inside
 
-pub shares_at-requires : goal.shares_at-requires
-shares_at-requires c =
+pub shares_at-shares-requires : goal.shares_at-shares-requires
+shares_at-shares-requires c =
     let a = c.args in
-    let e = c.in_ok-r.ensures in
+    let e = c.in_ok-run.ensures in
     let call = accepted a.sheet.now a.target a.allowance a.store.now c.test_target.ensures e.value e.store_after refl in
     summable call c.new-list.ensures.inside
 
 pub returns-clause-value : goal.returns-clause-value
 returns-clause-value c =
     let a = c.args in
-    let e = c.in_ok-r.ensures in
+    let e = c.in_ok-run.ensures in
     let call = accepted a.sheet.now a.target a.allowance a.store.now c.test_target.ensures e.value e.store_after refl in
-    speed_asked call c.new-list.ensures.inside a.target c.speed_for-speed.ensures c.shares_at.ensures c.with_shares.ensures
+    speed_asked call c.new-list.ensures.inside a.target c.speed_for-speed.ensures c.shares_at-shares.ensures
     ∙ sym (answer_by a.sheet.now a.target a.allowance a.store.now refl)
 
 pub returns-clause-store_after : goal.returns-clause-store_after
 returns-clause-store_after c =
     let a = c.args in
-    let e = c.in_ok-r.ensures in
+    let e = c.in_ok-run.ensures in
     stored a.sheet.now a.target a.allowance a.store.now c.test_target.ensures e.value e.store_after

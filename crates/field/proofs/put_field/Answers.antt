@@ -8,8 +8,8 @@ use Rattle.field.proofs.put_field.Goals as goal
 pub loop-i-init : goal.loop-i-init
 unfolding put_at
 loop-i-init c =
-    let z : c.args.width - c.args.width ≡ 0 = omega arith in
-    (rw (z, c.from-x.ensures) (sym (div-one c.args.value)), rw z)
+    let z : c.args.field.width - c.args.field.width ≡ 0 = omega arith in
+    (rw (z, c.from-x.ensures) (sym (div-one c.args.field.value)), rw z)
 
 pub loop-i-preserved : goal.loop-i-preserved
 loop-i-preserved c =
@@ -21,5 +21,5 @@ pub returns : goal.returns
 returns c =
     let z : c.loop-i.i ≡ 0 = omega arith in
     let e : c.args.at + 0 ≡ c.args.at = omega arith in
-    let f : c.args.width - 0 ≡ c.args.width = omega arith in
+    let f : c.args.field.width - 0 ≡ c.args.field.width = omega arith in
     rw (z, e, f) at c.loop-i.invariant.1

@@ -4,4 +4,4 @@ use Rattle.field.specs.Bits.{put_at}
 use Rattle.field.proofs.put_field.Given as goal
 
 abbrev pub invariant-loop-i : goal.invariant-loop-i
-invariant-loop-i l = (l.x ≡ l.value / 2 ^ (l.width - l.i)) × (l.dst ≡ put_at l.initial.dst (l.at + l.i) (l.width - l.i) l.value)
+invariant-loop-i l = (l.x ≡ l.fn.field.value / 2 ^ (l.fn.field.width - l.i)) × (l.dst ≡ put_at l.initial.dst (l.at + l.i) (l.fn.field.width - l.i) l.fn.field.value)

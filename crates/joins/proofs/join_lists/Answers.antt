@@ -1,5 +1,6 @@
 -- `joins::join_lists` meets its contract: in each turn one pair goes in, which the records of a and b give in order. Assumes nothing.
-use Rattle.std.proofs.Common.{◌≡◌, refl, ◌∙◌, List, [], ◌∷◌, ◌++◌, ◌+◌, map, drop, rules, arith}
+use Rattle.std.proofs.Common.{◌≡◌, refl, ap, ◌∙◌, List, [], ◌∷◌, ◌++◌, ◌+◌, map, drop, rules, arith}
+use Rattle.std.specs.Result.{result_ok}
 use Rattle.theory.specs.declared.Focal.{Focal}
 use Rattle.theory.specs.Joins.{joined_focal, pairs}
 use Rattle.records.specs.Records.{records_of}
@@ -49,14 +50,14 @@ insert-requires c =
 pub returns-in_err-place : goal.returns-in_err-place
 returns-in_err-place c =
     let t = turn (goal.at.returns-in_err-place c).After-focal_in c.join_focals.ensures in
-    let d = filling_stop t c.insert.ensures.bytes c.in_err-place.ensures.value in
+    let d = filling_stop t c.insert.ensures.bytes (c.in_err-place.ensures.value ∙ ap result_ok c.insert.ensures.value) in
     record { value = c.from_residual.ensures ∙ d.0; out_after = rw (← d.1) (search rules) }
 
 pub loop-s-preserved : goal.loop-s-preserved
 loop-s-preserved c =
     let t = turn (goal.at.loop-s-preserved c).After-focal_in c.join_focals.ensures in
     record {
-      filling = filling_step t c.insert.ensures.bytes c.in_ok-place.ensures.value c.insert.ensures.count;
+      filling = filling_step t c.insert.ensures.bytes (c.in_ok-place.ensures.value ∙ ap result_ok c.insert.ensures.value) c.insert.ensures.count;
       same_reference = c.insert.ensures.same_reference ∙ c.loop-s.invariant.same_reference;
     }
 

@@ -22,9 +22,9 @@ pairs_are : (g : Over) (c : After-new-2 g)
 pairs_are g c =
     let j = c.requires.joinable in
     let a : records_of c.new.result ≡ list_of_span c.args.store.now c.args.left =
-    c.new.ensures.inside (omega arith) ∙ copied c.args.store.now _ _ c.args.left j.first c.copy_from_slice.ensures.after in
+    c.new.ensures.inside (omega arith) ∙ copied c.args.store.now _ _ c.args.left j.first (rw c.range.ensures at c.copy_from_slice.ensures.after) in
     let b : records_of c.new-2.result ≡ list_of_span c.args.store.now c.args.right =
-    c.new-2.ensures.inside (omega arith) ∙ copied c.args.store.now _ _ c.args.right j.second c.copy_from_slice-2.ensures.after in
+    c.new-2.ensures.inside (omega arith) ∙ copied c.args.store.now _ _ c.args.right j.second (rw c.range-2.ensures at c.copy_from_slice-2.ensures.after) in
     λ k. pairs c.args.op (a k) (b k)
 
 pub join_lists-requires-clause-fits : goal.join_lists-requires-clause-fits

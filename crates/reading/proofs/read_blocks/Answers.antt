@@ -71,12 +71,12 @@ loop-component-preserved c =
     let i = l.component-index in
     let p = l.invariant.read in
     let q = found s i _ p c.in_ok-b.ensures in
-    let e = c.or-flaws.ensures ∙ ap (either_flaws l.flaws) (rw c.new.ensures at c.of.ensures) in
+    let e = c.bitor_assign.ensures.after ∙ ap (either_flaws l.flaws) (rw c.new.ensures at c.of.ensures) in
     let a = set-append_left l.component-items (drop c.args.n (replicate most_components zero_component)) i c.in_ok-b.b.component (omega arith) in
     record {
       uncut = uncut_next s i l.invariant.uncut (cut_is s i _ q);
       read =
-          ap (λ (cs : List Component). so_far cs (l.nonzero || c.in_ok-b.b.nonzero) c.or-flaws.result (l.end + c.in_ok-b.b.size)) (sym a)
+          ap (λ (cs : List Component). so_far cs (l.nonzero || c.in_ok-b.b.nonzero) c.bitor_assign.new.self (l.end + c.in_ok-b.b.size)) (sym a)
           ∙ next_block s i _ q _ _ _ p refl e;
       inside = within_sheet s i _ p q l.invariant.inside;
     }

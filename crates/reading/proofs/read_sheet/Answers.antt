@@ -1,19 +1,18 @@
 -- `reading::read_sheet` meets its contract. Assumes nothing.
 use mathlib.Core.Path.{◌≡◌, refl, sym, ap, ◌∙◌}
-use mathlib.Core.List.{List, ◌++◌, map}
+use mathlib.Core.List.{List, ◌++◌}
 use Prim.Native.Nat.{ℕ, ◌+◌, ◌*◌}
 use native.Mathlib.Omega.{arith}
 use lib.ListN.{length}
 use Rattle.std.specs.Prelude.{Some, Result, Ok, Err}
 use Rattle.std.specs.Result.{IsErrAnd}
 use Rattle.theory.specs.Sums.{Every, more}
-use Rattle.theory.specs.Codes.{entry_of}
 use Rattle.theory.specs.Limits.{entry_count}
 use Rattle.theory.specs.declared.Refusal.{Refusal}
 use Rattle.theory.specs.Refusals.{refusal_number}
 use Rattle.theory.proofs.Refusals.{numbered}
 use Rattle.plan.specs.declared.Plan.{Plan}
-use Rattle.plan.specs.Plan.{codes_in, zero_plan}
+use Rattle.plan.specs.Plan.{structure_in, zero_plan}
 use Rattle.plan.specs.Tests.{first_broken, Unbroken}
 use Rattle.plan.specs.Rules.{flaw_tests, structure_tests, rules, Counted}
 use Rattle.plan.proofs.Numbers.{no_number, first_found, first_none}
@@ -80,12 +79,10 @@ module _ (s : List ℕ) where
         plan_is = plan_read s n count_is b blocks_are es entries_are
 
         -- The rules 6 to 11 decide.
-        decides : (codes : List ℕ) → codes ≡ codes_in es n
-            → first_broken (flaw_tests b.flaws ++ structure_tests n (map entry_of codes)) ≡ first_broken (sheet_tests s)
-        decides codes e =
-            rw e
-            (ap first_broken (rules_read s n count_is b blocks_are es entries_are counted.most)
-            ∙ sym (first_none (layout_tests s ++ rules (plan_in s)) begun.kept ∙ first_none (rules (plan_in s)) laid))
+        decides : first_broken (flaw_tests b.flaws ++ structure_tests n (structure_in es n)) ≡ first_broken (sheet_tests s)
+        decides =
+            ap first_broken (rules_read s n count_is b blocks_are es entries_are counted.most)
+            ∙ sym (first_none (layout_tests s ++ rules (plan_in s)) begun.kept ∙ first_none (rules (plan_in s)) laid)
 
 pub returns-in_err-n : goal.returns-in_err-n
 returns-in_err-n c = let s = c.args.sheet.now in refused s _ _ c.from_residual.ensures.1 (head_refuses s _ c.in_err-n.ensures)
@@ -127,17 +124,14 @@ read_entries-entries-requires c =
     let e = c.entry_count.ensures in
     (omega (arith, e, m.least, m.most), omega (arith, e, m.least, m.most, a), omega (arith, e, m.most, a, (begun s _ h).short))
 
-pub used_codes-requires : goal.used_codes-requires
-used_codes-requires c = counted c.args.sheet.now _ c.in_ok-n.ensures
-
 pub test_rules-requires : goal.test_rules-requires
-test_rules-requires c = (counted c.args.sheet.now _ c.in_ok-n.ensures).most
+test_rules-requires c = counted c.args.sheet.now _ c.in_ok-n.ensures
 
 pub returns-in_err-test_rules : goal.returns-in_err-test_rules
 returns-in_err-test_rules c =
     let s = c.args.sheet.now in
     let d = c.in_ok-components.ensures in
-    let k = decides s _ c.in_ok-n.ensures d.number _ (sym d.found ∙ c.read_blocks.ensures) _ c.entry_count.ensures _ c.read_entries-entries.ensures _ c.used_codes.ensures in
+    let k = decides s _ c.in_ok-n.ensures d.number _ (sym d.found ∙ c.read_blocks.ensures) _ c.entry_count.ensures _ c.read_entries-entries.ensures in
     refused s _ _ c.from_residual-in_err-test_rules.ensures.1 (c.in_err-test_rules.ensures ∙ k)
 
 pub returns : goal.returns
@@ -145,6 +139,6 @@ unfolding read_of
 returns c =
     let s = c.args.sheet.now in
     let d = c.in_ok-components.ensures in
-    let k = decides s _ c.in_ok-n.ensures d.number _ (sym d.found ∙ c.read_blocks.ensures) _ c.entry_count.ensures _ c.read_entries-entries.ensures _ c.used_codes.ensures in
+    let k = decides s _ c.in_ok-n.ensures d.number _ (sym d.found ∙ c.read_blocks.ensures) _ c.entry_count.ensures _ c.read_entries-entries.ensures in
     let p = plan_is s _ c.in_ok-n.ensures d.number _ (sym d.found ∙ c.read_blocks.ensures) _ c.entry_count.ensures _ c.read_entries-entries.ensures in
     ap (λ (x : Plan). reading 0 x) p ∙ ap (λ x. reading x (plan_in s)) (c.in_ok-test_rules.ensures ∙ k)

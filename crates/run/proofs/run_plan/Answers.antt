@@ -2,7 +2,7 @@
 use Rattle.std.proofs.Common.{◌≡◌, ℕ, ◌≤◌, ◌<◌, ◌+◌, sym, ap, ap₂, ◌∙◌, List, [], ◌∷◌, map, length, get_or, drop, drop-cons, add-one, arith}
 use Rattle.std.specs.Prelude.{replicate}
 use Rattle.std.specs.Array.{AllOfLen}
-use Rattle.std.proofs.lemmas.List.{length-replicate, get_or-replicate, ext_get_or}
+use Rattle.theory.proofs.Every.{all_alike}
 use lib.ListN.{drop_of_length-le}
 use Rattle.theory.specs.Limits.{most_components}
 use Rattle.theory.specs.declared.Entry.{Entry}
@@ -29,9 +29,7 @@ ByDefault st =
 
 default_is_empty : (st : Stack) → ByDefault st → st ≡ empty_stack
 default_is_empty st d =
-    let lists : st.lists ≡ replicate most_components no_span =
-    ext_get_or no_span st.lists (replicate most_components no_span) (d.0.long ∙ sym (length-replicate most_components no_span))
-    (λ i h. no_span_is _ (d.0.at i no_span (rw d.0.long at h)) ∙ sym (get_or-replicate most_components i no_span no_span (rw d.0.long at h))) in
+    let lists : st.lists ≡ replicate most_components no_span = all_alike no_span no_span_is most_components d.0 in
     let e : ◌≡◌ {A = Stack} (record { lists = st.lists; depth = st.depth; free = st.free; pairs = st.pairs }) empty_stack =
     rw (lists, d.1.0, d.1.1.0, d.1.1.1) in
     e
