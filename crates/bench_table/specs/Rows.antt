@@ -61,7 +61,7 @@ W0 = component_of 100 ((0, 4, 20) ∷ (3, 8, 67) ∷ (7, 10, 13) ∷ [])
 unfoldable pub W1 : Component
 W1 = component_of 100 ((0, 6, 67) ∷ (8, 10, 33) ∷ [])
 
--- "j, 8 times j, j from 0 to 7"; D3, "64 times j", has only the first so many, and stands with the rows.
+-- "j, 8 times j, 64 times j, j from 0 to 7 (in D3 only the first so many)".
 abbrev pub times : ℕ → List ℕ
 times step = map (λ j. step * j) (range_with_len 0 8)
 
@@ -70,6 +70,9 @@ D1 = single_speeds 8 (times 1)
 
 unfoldable pub D2 : Component
 D2 = single_speeds 8 (times 8)
+
+unfoldable pub D3 : ℕ → Component
+D3 count = single_speeds count (take count (times 64))
 
 -- The code of a join in a structure.
 abbrev pub join_code : Join → ℕ

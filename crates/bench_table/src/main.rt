@@ -10,7 +10,7 @@ ghost use Rattle.std.specs.Prelude.{◌≡◌, ◌↔◌, IsTrue, ◌<◌, ◌�
 ghost use Rattle.theory.specs.Focal.{focal};
 ghost use Rattle.theory.specs.Limits.{most_components, most_held, store_bytes};
 ghost use Rattle.records.specs.Records.{records_of};
-ghost use Rattle.bench_table.specs.Rows.{component_of, single_speeds, component_a, component_b, W0, W1, D1, D2, join_code, chain, sheet_of};
+ghost use Rattle.bench_table.specs.Rows.{component_of, single_speeds, component_a, component_b, W0, W1, D1, D2, D3, join_code, chain, sheet_of};
 ghost use Rattle.bench_table.specs.Rows.{bytes_of, every_speed, speeds_to_ceiling, Asks, numbers_of, Answered, refused_as, intervals_of, accepted_of};
 
 mod call;
@@ -169,7 +169,7 @@ fn sheet_w() -> Sheet
 }
 
 // D1, D2 and a third component, of these speeds.
-fn d_with(speeds: &[u16]) -> Sheet
+fn d_and(speeds: &[u16]) -> Sheet
     requires { length speeds.now ≤ most_held }
     ensures { bytes_of result ≡ sheet_of (chain (D1 ∷ D2 ∷ single_speeds (length speeds.now) speeds.now ∷ []) Join.Shared) }
 {
@@ -177,6 +177,14 @@ fn d_with(speeds: &[u16]) -> Sheet
     let d2 = single_speeds(8, &D2_SPEEDS);
     let d3 = single_speeds(speeds.len() as u16, speeds);
     sheet(&[d1, d2, d3], Join::Shared)
+}
+
+// D1, D2 and D3 with so many speeds.
+fn d_with(count: u16) -> Sheet
+    requires { count ≤ most_held }
+    ensures { bytes_of result ≡ sheet_of (chain (D1 ∷ D2 ∷ D3 count ∷ []) Join.Shared) }
+{
+    d_and(&D3_SPEEDS[..usize::from(count)])
 }
 
 // A speed in a list, with weight 1.
@@ -523,13 +531,13 @@ fn rows_of_w_and_refusals(t: &mut Table) -> io::Result<()> {
 
 // The others. Byte 3 of a sheet ends the first component's T.
 fn rows_of_limits(t: &mut Table) -> io::Result<()> {
-    let five = d_with(&D3_SPEEDS[..5]);
+    let five = d_with(5);
     let any = alone(component(1000, &[(0, 4095, 1000)]));
     let above = any.with(3, 0xE9);
     let p2 = a_and_b(Join::Shared);
     let other = a_and_b_as(0x00, 0x80);
     rows! { t;
-        "D1, D2, D3 with 4, demand 0": d_with(&D3_SPEEDS[..4]).at(0).gives(ok(accepted(256, 256, 256, 320, 256)), &every_speed()),
+        "D1, D2, D3 with 4, demand 0": d_with(4).at(0).gives(ok(accepted(256, 256, 256, 320, 256)), &every_speed()),
         "D1, D2, D3 with 5, allowance 384": five.at(0).allow(384).refused(Refusal::ListLength),
         "D1, D2, D3 with 5, allowance 383": five.at(0).allow(383).refused(Refusal::Allowance),
         "T 1,000, demand 1": any.at(1).gives(ok(accepted(1000, 0, 1000, 0, 1)), &list![[0, 4095] 1000]),
@@ -577,7 +585,7 @@ fn rows_of_ceiling(t: &mut Table) -> io::Result<()> {
     let slow = component(2, &[(50, 60, 1), (95, 200, 1)]);
     let short = sheet(&[fast, slow], Join::Shared);
     let short_list = list![[4095, 4095] 8, [4050, 4095] 2, [3095, 4095] 1, [3050, 4060] 1];
-    let d = d_with(&[0, 64, 128, 4094, 4095]);
+    let d = d_and(&[0, 64, 128, 4094, 4095]);
     let d_list = speeds_to_ceiling();
     rows! { t;
         "4,095 and 1 shared, demand 4,095": both.at(4095).gives(ok(accepted(1, 1, 1, 1, 1)), &list![[4095, 4095] 1]),
@@ -611,7 +619,7 @@ fn rows_of_speeds(t: &mut Table) -> io::Result<()> {
 fn rows_of_refused_speeds(t: &mut Table) -> io::Result<()> {
     let other = a_and_b_as(0x80, 0x10);
     let p2 = a_and_b(Join::Shared);
-    let five = d_with(&D3_SPEEDS[..5]);
+    let five = d_with(5);
     rows! { t;
         "structure 8 0 1, target 0, buffer 16,383 bytes": other.speed(0).store(ROOM - 1).refused(Refusal::Joins),
         "target 0, buffer 16,383 bytes": p2.speed(0).store(ROOM - 1).refused(Refusal::Store),
@@ -643,7 +651,7 @@ fn rows_of_sets(t: &mut Table) -> io::Result<()> {
 fn rows_of_refused_sets(t: &mut Table) -> io::Result<()> {
     let other = a_and_b_as(0x80, 0x10);
     let p2 = a_and_b(Join::Shared);
-    let five = d_with(&D3_SPEEDS[..5]);
+    let five = d_with(5);
     rows! { t;
         "structure 8 0 1, no demand, buffer 16,383 bytes": other.set(&[]).store(ROOM - 1).refused(Refusal::Joins),
         "no demand, buffer 16,383 bytes": p2.set(&[]).store(ROOM - 1).refused(Refusal::Store),

@@ -1,7 +1,9 @@
 -- `bench_table::d_with` meets its contract. Assumes nothing.
-use Rattle.bench_table.specs.Rows.{D1, D2}
+use Rattle.std.proofs.Common.{arith}
+use Rattle.std.proofs.Math.Seq.{length-take-le}
+use Rattle.bench_table.specs.Rows.{times, D3}
 use Rattle.bench_table.proofs.d_with.Goals as goal
 
 pub returns : goal.returns
-unfolding D1 D2
-returns c = rw (c.sheet.ensures, c.single_speeds-d1.ensures, c.single_speeds-d2.ensures, c.single_speeds-d3.ensures)
+unfolding D3
+returns c = rw (c.d_and.ensures, c.from.ensures, length-take-le c.args.count (times 64) (omega arith))
