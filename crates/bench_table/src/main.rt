@@ -529,7 +529,7 @@ fn rows_of_w_and_refusals(t: &mut Table) -> io::Result<()> {
     Ok(())
 }
 
-// The others. Byte 3 of a sheet ends the first component's T.
+// The table's rows without a P. Byte 3 of a sheet ends the first component's T.
 fn rows_of_limits(t: &mut Table) -> io::Result<()> {
     let five = d_with(5);
     let any = alone(component(1000, &[(0, 4095, 1000)]));

@@ -63,6 +63,7 @@ impl Extent {
     pub fn size(self) -> usize
         ensures { result ≡ size_of self.count }
     {
+        // Not `div_ceil`: crate field says why.
         (interval_place(self.count) + 7) / 8
     }
 

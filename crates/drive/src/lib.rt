@@ -1,5 +1,5 @@
-// The calls for C hosts, on numbers and byte slices. Crate drive_c exports them, so each takes its buffers one by one; it returns the number of
-// what they answer. The three are alike, and no generic one: what they take, ask and write differs, and a trait for that would be longer. The
+// The calls for C hosts, on numbers and byte slices. Crate drive_c exports them, so each takes its buffers one by one; there the number of what
+// they answer is returned. The three are alike, and no generic one: what they take, ask and write differs, and a trait for that would be longer. The
 // header host/drive.h is the manual.
 // Where a number is cast there is no `From`, a `TryFrom` would never fail, and the check proves that nothing is lost.
 #![tactic(auto)]

@@ -15,13 +15,15 @@ pub struct Field {
 
 // Buffer, place and width are parameters here and below, as those of `s[i..j]`: a struct of them would say no more.
 
-// The window of width bits at bit at: those bits behind the ones before them in their first byte, out of at most eight bytes.
+// The window of width bits at bit at: the number that begins with the bits before them in their first byte and ends with them. At most eight
+// bytes are gathered.
 pub fn window(src: &[u8], at: usize, width: usize) -> u64
     requires { WindowInside src.now at width }
     ensures { result ≡ window_at src.now at width }
 {
     let end = at + width;
     let first = at / 8;
+    // Not `div_ceil`, here and in block: tried, reading takes 5 % longer, and the call for a chair with rests goes from 0.94 to 1.05 times plain C.
     let last = (end + 7) / 8;
     let acc = numbers::read_number(src, first, last - first);
     acc / powers::byte_pow2(last * 8 - end)

@@ -30,7 +30,8 @@ pub fn write_number(s: &mut [u8], at: usize, n: usize, v: u64)
     ensures { s.new ≡ take at s.old ++ (big_endian n v ++ drop (at + n) s.old) }
 {
     let mut x = v;
-    // Not `to_be_bytes`: n is any number. By place, and not over `&mut s[at..at + n]`: where n is a constant, the compiler makes one store of it.
+    // Not `to_be_bytes`: n is any number. By place: where n is a constant, the compiler makes one store of it; over `iter_mut().rev()` it was
+    // tried, and the proof did not close.
     for i in (0..n).rev() {
         s[at + i] = (x % 256) as u8;
         x /= 256;

@@ -45,7 +45,7 @@ impl Plan {
     }
 }
 
-// The edition of a sheet, and the widths of its fields outside the blocks: specs/Sheet.antt has them with document 01's words.
+// The bytes of a sheet's head, its edition, and the bits of its fields outside the blocks: specs/Sheet.antt has them with document 01's words.
 pub const HEAD_BYTES: usize = 2;
 
 pub const EDITION: u32 = 1;

@@ -96,8 +96,8 @@ impl<'a> Records<'a> {
     }
 
     // The place of the key's interval. The hint is any number, and no Option, since it is tested against the length anyway: where it is that
-    // of a record, the search begins there. By hand: by `partition_point` alone, as tried, the call for a chair takes a quarter longer at
-    // least, and 128 intervals joined to 128 more than three times as long.
+    // of a record, the search begins there. By hand: by `partition_point` alone, as tried, the call for a chair with rests goes from 0.93 to
+    // 1.32 times plain C, and that for 128 intervals joined to 128 from 0.38 to 1.37.
     #[tactic(auto, using(crate::proofs::Place::place_count))]
     fn find(&self, key: u64, hint: usize) -> usize
         requires { InOrder (records_of self.now) }
@@ -150,7 +150,8 @@ fn write_record(s: &mut [u8], i: usize, f: Focal)
 
 impl<'a> Listing<'a> {
     // Puts an interval with its weight into the list, and answers its place: an equal interval gets the weight added. Where the list would
-    // then have 257, all bytes stay as they are; the place is answered then too, as an error, and so it is no Option.
+    // then have 257, all bytes stay as they are; the place is answered then too, as an error, since it was promised before there was an
+    // Option, and so it is none.
     #[tactic(auto, using(crate::proofs::Place::place_in))]
     pub fn insert(&mut self, f: Focal, hint: usize) -> Result<usize, usize>
         requires { Insertable self.old.bytes.now self.old.count f.weight }
@@ -211,7 +212,8 @@ pub fn clear(s: &mut [u8], from: usize, to: usize)
     s[from..to].fill(0);
 }
 
-// Moves a list to the front of a store, and makes the rest of the first `end` bytes zero.
+// Moves a list to the front of a store, and makes the rest of the first `end` bytes zero. `end` stands beside the store, since the bytes behind
+// are spoken of too: they stay.
 pub fn settle(store: &mut [u8], list: Span, end: usize)
     requires { (list.start + record_bytes * list.count ≤ end) × (end ≤ length store.old) }
     ensures { store.new ≡ settled end (list_of_span store.old list) store.old }

@@ -169,7 +169,7 @@ impl From<Refusal> for u32 {
     }
 }
 
-// The number of an answer: 0 where it is accepted.
+// The number of an answer: 0 where it is accepted. No `From`: neither `Result` nor `u32` is this crate's.
 pub fn number_in<T: Drop>(answer: Result<T, Refusal>) -> u32
     ensures { result ≡ number_in answer }
 {

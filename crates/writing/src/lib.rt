@@ -75,7 +75,7 @@ impl<'a> SizedPlan<'a> {
         }
     }
 
-    // Its sheet, of len bytes, at the front of out.
+    // Its sheet, of len bytes, at the front of out. `len` stands beside it, since the bytes behind are spoken of too: they stay.
     #[tactic(auto, using(crate::proofs::Sizes::sheet_parts), unfolding(field::specs::Fields::FieldsInside))]
     fn put_sheet(self, out: &mut [u8], len: usize)
         requires { (len ≡ length_of self.plan.now) × (len ≤ length out.old) }
