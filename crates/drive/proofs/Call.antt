@@ -13,8 +13,7 @@ use Rattle.theory.specs.Sums.{Every, more}
 use Rattle.theory.proofs.Every.{every_split}
 use Rattle.plan.specs.Tests.{test, first_broken, Unbroken, First, here}
 use Rattle.reading.specs.Reading.{sheet_tests}
-use Rattle.evaluate.specs.Answer.{Answer}
-use Rattle.evaluate.specs.Answer.{call_tests, answer}
+use Rattle.evaluate.specs.Answer.{Answer, call_tests, answer}
 use Rattle.evaluate.specs.Store.{store_after}
 use Rattle.evaluate.specs.Demands.{by_test}
 use Rattle.plan.proofs.Numbers.{accepted_by, refused_by, first_in_front, first_behind}

@@ -10,8 +10,7 @@ use Rattle.numbers.specs.Numbers.{big_endian}
 use Rattle.numbers.proofs.Numbers.{length-big_endian, read_front, read_past}
 use Rattle.plan.specs.Tests.{first_broken, First}
 use Rattle.plan.proofs.Numbers.{first_in_front}
-use Rattle.evaluate.specs.Speed.{SpeedAnswer}
-use Rattle.evaluate.specs.Speed.{speed_answer, speed_store_after}
+use Rattle.evaluate.specs.Speed.{SpeedAnswer, speed_answer, speed_store_after}
 use Rattle.evaluate.specs.Answer.{call_tests}
 use Rattle.evaluate.specs.Demands.{by_test}
 use Rattle.evaluate.proofs.SpeedMet.{speed_met, speed_answer_fits}

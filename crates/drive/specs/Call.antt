@@ -4,8 +4,7 @@ use Rattle.theory.specs.Sums.{Every}
 use Rattle.numbers.specs.Numbers.{big_endian, number_at}
 use Rattle.plan.specs.Tests.{Unbroken, First}
 use Rattle.reading.specs.Reading.{sheet_tests}
-use Rattle.evaluate.specs.Answer.{Answer}
-use Rattle.evaluate.specs.Answer.{answer}
+use Rattle.evaluate.specs.Answer.{Answer, answer}
 use Rattle.evaluate.specs.Store.{store_after}
 
 -- The bytes that an answer takes.

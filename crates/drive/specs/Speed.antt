@@ -1,8 +1,7 @@
 -- The call for a speed for C hosts: as the ordinary call, with one answer more. Assumes nothing.
 use Rattle.std.specs.Prelude.{ℕ, ◌≤◌, ◌<◌, ◌≡◌, List, ◌++◌, length, drop}
 use Rattle.numbers.specs.Numbers.{big_endian, number_at}
-use Rattle.evaluate.specs.Speed.{SpeedAnswer}
-use Rattle.evaluate.specs.Speed.{speed_answer, speed_store_after}
+use Rattle.evaluate.specs.Speed.{SpeedAnswer, speed_answer, speed_store_after}
 use Rattle.drive.specs.Call.{answer_bytes, encode_answer, room, lent_by, answers_by, TooShort, AnswersRead}
 
 -- The bytes that the answers take: those of an ordinary call, then the speed, 8 bytes, most significant first.

@@ -36,14 +36,10 @@ module _ (l : List Focal) (p : Focal) (ps : List Focal) where
       → (most_intervals < length (inserted p l) → P (record { list = l; count = length (inserted p l) })) → P (fill l (p ∷ ps))
   by_room P f g = ⊎_elim (λ k. rw k.0 (f k.1)) (λ k. rw k.0 (g k.1)) (leb_tells (length (inserted p l)) most_intervals)
 
--- ---- what a filled list has of the list that it began with
-
-pub record Grown (l : List Focal) (f : Filled) : Type 0 where
-  pub room : length l ≤ most_intervals → length f.list ≤ most_intervals
-
-pub grown : (l ps : List Focal) → Grown l (fill l ps)
-grown l [] = record { room = λ h. h }
-grown l (p ∷ ps) = by_room l p ps (Grown l) (λ h. record { room = λ q. (grown (inserted p l) ps).room h }) (λ h. record { room = λ q. q })
+-- A list that has room is filled up to its room at most.
+pub filled_room : (l ps : List Focal) → length l ≤ most_intervals → length (fill l ps).list ≤ most_intervals
+filled_room l [] h = h
+filled_room l (p ∷ ps) h = by_room l p ps (λ f. length f.list ≤ most_intervals) (filled_room (inserted p l) ps) (λ k. h)
 
 -- ---- a list on the way: `acc` stands in the buffer, `rest` is still to go in, and `g` is what that gives
 

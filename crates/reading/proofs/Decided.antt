@@ -19,9 +19,8 @@ use Rattle.plan.specs.Tests.{first_broken, any_of, Unbroken}
 use Rattle.plan.specs.Rules.{bad_total, bad_intervals, bad_sum, rules}
 use Rattle.plan.proofs.Tests.{any_map, any_below, within}
 use Rattle.plan.proofs.Numbers.{no_number, accepted_by, refused_by}
-use Rattle.reading.specs.Reading.{Reading}
+use Rattle.reading.specs.Reading.{Reading, edition_in, component_count, length_in, start_of, block_at, structure_place, plan_in, any_cut, bad_layout, any_nonzero, bad_zeros, sheet_tests, block_tests, reading, read_of, Decided}
 use Rattle.reading.proofs.SheetLayout.{components_are}
-use Rattle.reading.specs.Reading.{edition_in, component_count, length_in, start_of, block_at, structure_place, plan_in, any_cut, bad_layout, any_nonzero, bad_zeros, sheet_tests, block_tests, reading, read_of, Decided}
 
 reading-number : (k : ℕ) (p : Plan) → (reading k p).number ≡ k
 reading-number zero p = refl

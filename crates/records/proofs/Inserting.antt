@@ -19,7 +19,7 @@ use Rattle.theory.specs.Order.{order, inserted}
 use Rattle.theory.specs.Limits.{most_intervals}
 use Rattle.theory.proofs.Sums.{sum_next, sum_take}
 use Rattle.records.specs.declared.view.Records.{Records}
-use Rattle.records.specs.Records.{bytes_of, encode, head_record, records, records_of, interval_at, key_of, keyed, speed_limit}
+use Rattle.records.specs.Records.{bytes_of, encode, head_record, records, records_of, nth_interval, key_of, keyed, speed_limit}
 use Rattle.records.specs.Store.{with_record, holding}
 use Rattle.records.specs.Insertion.{place, insertion_of, insert_or_stay, Insertable}
 use Rattle.numbers.specs.Numbers.{Bytes}
@@ -99,10 +99,10 @@ module _ {n : ℕ} {s : List ℕ} (f : Focal) (r : Insertable s n f.weight) (u :
 
     -- Whether record p is there, and is the same interval.
     abbrev met : Bool
-    met = ltb p (length list.records.now) && compare_is_eq (order (interval_at (records_of list) p) (keyed key 0))
+    met = ltb p (length list.records.now) && compare_is_eq (order (nth_interval (records_of list) p) (keyed key 0))
 
-    met_is : met ≡ (ltb p n && compare_is_eq (order (interval_at l p) f))
-    met_is = λ i. ltb p (size i) && compare_is_eq (order (interval_at (read i) p) (key_back i))
+    met_is : met ≡ (ltb p n && compare_is_eq (order (nth_interval l p) f))
+    met_is = λ i. ltb p (size i) && compare_is_eq (order (nth_interval (read i) p) (key_back i))
 
     answer_is : (m : ℕ) → length (inserted f l) ≡ m → m ≤ most_intervals → (e : List ℕ) → e ≡ holding s (inserted f l) → Inserted n s f (Ok p) e m
     answer_is m e h t k =
@@ -111,11 +111,11 @@ module _ {n : ℕ} {s : List ℕ} (f : Focal) (r : Insertable s n f.weight) (u :
 
     -- It is. Then its weight is added.
     module _ {t : Bool} (te : t ≡ met) (yes : t ≡ true) {old : Focal} (oe : old ≡ head_record (get_or list.records.now p [])) where
-      pub there : (p < n) × (compare_is_eq (order (interval_at l p) f) ≡ true)
-      there = let (q, e) = and_parts (ltb p n) (compare_is_eq (order (interval_at l p) f)) (sym met_is ∙ sym te ∙ yes) in (ltb-true p n q, e)
+      pub there : (p < n) × (compare_is_eq (order (nth_interval l p) f) ≡ true)
+      there = let (q, e) = and_parts (ltb p n) (compare_is_eq (order (nth_interval l p) f)) (sym met_is ∙ sym te ∙ yes) in (ltb-true p n q, e)
 
-      this : interval_at l p ≡ old
-      this = ap (λ (k : List Focal). interval_at k p) (sym read) ∙ record_is list.records.now p [] (omega (arith, size, there.0)) ∙ sym oe
+      this : nth_interval l p ≡ old
+      this = ap (λ (k : List Focal). nth_interval k p) (sym read) ∙ record_is list.records.now p [] (omega (arith, size, there.0)) ∙ sym oe
 
       pub weight_fits : old.weight ≤ weights l
       weight_fits =
@@ -143,7 +143,7 @@ module _ {n : ℕ} {s : List ℕ} (f : Focal) (r : Insertable s n f.weight) (u :
 
     -- It is not, and so no record is.
     module _ {t : Bool} (te : t ≡ met) (no : t ≡ false) where
-      absent : p < n → compare_is_eq (order (interval_at l p) f) ≡ false
+      absent : p < n → compare_is_eq (order (nth_interval l p) f) ≡ false
       absent h = sym (rw (lt-ltb p n h) at (te ∙ met_is)) ∙ no
 
       list_is : inserted f l ≡ take p l ++ (f ∷ drop p l)

@@ -21,7 +21,7 @@ use Rattle.theory.proofs.Order.{Placed, placed, before_trans, order_before}
 use Rattle.theory.proofs.Every.{index_of_every}
 use Rattle.theory.proofs.Lists.{insert_skip, insert_here, insert_same}
 use Rattle.numbers.specs.Numbers.{Bytes}
-use Rattle.records.specs.Records.{head_record, key_of, keyed, records, records_of, interval_at, speed_limit}
+use Rattle.records.specs.Records.{head_record, key_of, keyed, records, records_of, nth_interval, speed_limit}
 use Rattle.records.specs.declared.view.Records.{Records}
 use Rattle.records.specs.Insertion.{is_before, place}
 use Rattle.records.proofs.RecordLaws.{head_under, length-records, record_is}
@@ -97,17 +97,17 @@ place_front f (g ∷ gs) = go (is_before (order g f)) refl (place_front f gs)
     go false e r = Every.none
 
 -- and the one at it does not.
-place_stop : (f : Focal) (l : List Focal) → place f l < length l → is_before (order (interval_at l (place f l)) f) ≡ false
+place_stop : (f : Focal) (l : List Focal) → place f l < length l → is_before (order (nth_interval l (place f l)) f) ≡ false
 place_stop f [] h = absurd (not-suc-le-zero h)
 place_stop f (g ∷ gs) h = go (is_before (order g f)) refl (place_stop f gs) h
   where
-    go : (b : Bool) → is_before (order g f) ≡ b → (place f gs < length gs → is_before (order (interval_at gs (place f gs)) f) ≡ false)
-        → cond b (suc (place f gs)) 0 < suc (length gs) → is_before (order (interval_at (g ∷ gs) (cond b (suc (place f gs)) 0)) f) ≡ false
+    go : (b : Bool) → is_before (order g f) ≡ b → (place f gs < length gs → is_before (order (nth_interval gs (place f gs)) f) ≡ false)
+        → cond b (suc (place f gs)) 0 < suc (length gs) → is_before (order (nth_interval (g ∷ gs) (cond b (suc (place f gs)) 0)) f) ≡ false
     go true e r h = r (le_of_suc-le-suc h)
     go false e r h = e
 
 -- In a list in order exactly those in front of the place come before.
-in_front : (f : Focal) {l : List Focal} → InOrder l → (m : ℕ) → m < length l → is_before (order (interval_at l m) f) ≡ ltb m (place f l)
+in_front : (f : Focal) {l : List Focal} → InOrder l → (m : ℕ) → m < length l → is_before (order (nth_interval l m) f) ≡ ltb m (place f l)
 in_front f InOrder.none m h = absurd (not-suc-le-zero h)
 in_front f (InOrder.more {f = g} {fs = gs} b r) zero h = go (is_before (order g f))
   where
@@ -115,14 +115,14 @@ in_front f (InOrder.more {f = g} {fs = gs} b r) zero h = go (is_before (order g 
     go true = sym (lt-ltb 0 (suc (place f gs)) (omega arith))
     go false = refl
 in_front f (InOrder.more {f = g} {fs = gs} b r) (suc m) h =
-    go (is_before (order g f)) (is_before (order (interval_at gs m) f)) refl refl (in_front f r m (le_of_suc-le-suc h))
+    go (is_before (order g f)) (is_before (order (nth_interval gs m) f)) refl refl (in_front f r m (le_of_suc-le-suc h))
   where
-    go : (x y : Bool) → is_before (order g f) ≡ x → is_before (order (interval_at gs m) f) ≡ y → y ≡ ltb m (place f gs)
+    go : (x y : Bool) → is_before (order g f) ≡ x → is_before (order (nth_interval gs m) f) ≡ y → y ≡ ltb m (place f gs)
         → y ≡ ltb (suc m) (cond x (suc (place f gs)) 0)
     go true y e k i = rw compare.suc-suc i
     go false false e k i = sym (le-ltb (suc m) 0 (omega arith))
     go false true e k i =
-        let p : Before g f = before_trans g (interval_at gs m) f (index_of_every no_focal b m (le_of_suc-le-suc h)) (before_true (interval_at gs m) f k) in
+        let p : Before g f = before_trans g (nth_interval gs m) f (index_of_every no_focal b m (le_of_suc-le-suc h)) (before_true (nth_interval gs m) f k) in
         differ (sym (ap is_before (order_before g f p)) ∙ e)
 
 -- A test of record m is whether it lies in front of the place.
@@ -183,17 +183,17 @@ module _ (rs : List (List ℕ)) (f : Focal) (o : InOrder (map head_record rs)) (
 split : (f : Focal) (l : List Focal) → inserted f l ≡ take (place f l) l ++ inserted f (drop (place f l) l)
 split f l = ap (inserted f) (sym (take-append-drop (place f l) l)) ∙ insert_skip f (place_front f l) (drop (place f l) l)
 
-pub insert_met : (f : Focal) (l : List Focal) → place f l < length l → compare_is_eq (order (interval_at l (place f l)) f) ≡ true
-    → inserted f l ≡ take (place f l) l ++ (with_weight f (f.weight + (interval_at l (place f l)).weight) ∷ drop (suc (place f l)) l)
+pub insert_met : (f : Focal) (l : List Focal) → place f l < length l → compare_is_eq (order (nth_interval l (place f l)) f) ≡ true
+    → inserted f l ≡ take (place f l) l ++ (with_weight f (f.weight + (nth_interval l (place f l)).weight) ∷ drop (suc (place f l)) l)
 insert_met f l h e =
     let p : ℕ = place f l in
-    let g : Focal = interval_at l p in
+    let g : Focal = nth_interval l p in
     let s : (g.low ≡ f.low) × (g.high ≡ f.high) = same_true g f e in
     split f l
     ∙ ap (λ (k : List Focal). take p l ++ k) (ap (inserted f) (drop-cons l p no_focal h) ∙ insert_same f g (sym s.0) (sym s.1) (drop (suc p) l))
     ∙ (λ i. take p l ++ (focal (s.0 i) (s.1 i) (f.weight + g.weight) ∷ drop (suc p) l))
 
-pub insert_new : (f : Focal) (l : List Focal) → (place f l < length l → compare_is_eq (order (interval_at l (place f l)) f) ≡ false)
+pub insert_new : (f : Focal) (l : List Focal) → (place f l < length l → compare_is_eq (order (nth_interval l (place f l)) f) ≡ false)
     → inserted f l ≡ take (place f l) l ++ (f ∷ drop (place f l) l)
 insert_new f l e =
     let p : ℕ = place f l in
@@ -201,6 +201,6 @@ insert_new f l e =
     (⊎_elim
     (λ q. let d : drop p l ≡ [] = drop_of_length-le l {i = p} (omega arith) in ap (inserted f) d ∙ ap (λ (k : List Focal). f ∷ k) (sym d))
     (λ h.
-    let d : drop p l ≡ interval_at l p ∷ drop (suc p) l = drop-cons l p no_focal h in
-    ap (inserted f) d ∙ insert_here f (interval_at l p) (neither (interval_at l p) f (place_stop f l h) (e h)) (drop (suc p) l) ∙ ap (λ (k : List Focal). f ∷ k) (sym d))
+    let d : drop p l ≡ nth_interval l p ∷ drop (suc p) l = drop-cons l p no_focal h in
+    ap (inserted f) d ∙ insert_here f (nth_interval l p) (neither (nth_interval l p) f (place_stop f l h) (e h)) (drop (suc p) l) ∙ ap (λ (k : List Focal). f ∷ k) (sym d))
     (eq-or-lt_of_le (place_within f l)))

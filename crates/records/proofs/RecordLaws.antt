@@ -15,7 +15,7 @@ use Rattle.theory.specs.declared.Focal.{Focal}
 use Rattle.numbers.specs.Numbers.{big_endian, number_at, Bytes}
 use Rattle.numbers.proofs.Numbers.{number_split, number_lt, bytes_drop, bytes_take, big_endian-onto, read_back}
 use Rattle.records.specs.Bytes.{AllBytes}
-use Rattle.records.specs.Records.{key_of, keyed, bytes_of, encode, head_record, records, interval_at, Under, speed_limit}
+use Rattle.records.specs.Records.{key_of, keyed, bytes_of, encode, head_record, records, nth_interval, Under, speed_limit}
 use Rattle.records.specs.Store.{replaced, holding}
 
 -- ---- a record in bytes
@@ -153,7 +153,7 @@ cut_bytes (suc n) (suc m) s h (suc i) = cut_bytes n m (drop 12 s) (bytes_drop 12
 
 -- ---- records that stand one behind the other
 
-pub record_is : (rs : List (List ℕ)) (i : ℕ) (d : List ℕ) → i < length rs → interval_at (map head_record rs) i ≡ head_record (get_or rs i d)
+pub record_is : (rs : List (List ℕ)) (i : ℕ) (d : List ℕ) → i < length rs → nth_interval (map head_record rs) i ≡ head_record (get_or rs i d)
 record_is rs i d h = get_or-map head_record rs i d no_focal h
 
 -- A walk along them takes one after the other.

@@ -30,8 +30,8 @@ records (suc n) s = head_record s ∷ records n (drop record_bytes s)
 abbrev pub records_of : Records → List Focal
 records_of r = map head_record r.records.now
 
-abbrev pub interval_at : List Focal → ℕ → Focal
-interval_at l i = get_or l i no_focal
+abbrev pub nth_interval : List Focal → ℕ → Focal
+nth_interval l i = get_or l i no_focal
 
 -- Low and high take 16 bits each, so a record holds speeds below this.
 abbrev pub speed_limit : ℕ

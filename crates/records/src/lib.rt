@@ -8,7 +8,7 @@ ghost use Rattle.std.proofs.Math.Dec.{compare_is_eq};
 ghost use Rattle.theory.specs.Order.{order, InOrder};
 ghost use Rattle.theory.specs.Limits.{record_bytes};
 ghost use Rattle.numbers.specs.Numbers.{Bytes};
-ghost use Rattle.records.specs.Records.{head_record, records, records_of, interval_at, key_of, keyed};
+ghost use Rattle.records.specs.Records.{head_record, records, records_of, nth_interval, key_of, keyed};
 ghost use Rattle.records.specs.Store.{with_record, zeroed, holding, list_of_span, settled};
 ghost use Rattle.records.specs.Insertion.{is_before, place, insertion_of, insert_or_stay, Insertable};
 
@@ -80,7 +80,7 @@ impl<'a> Records<'a> {
     // Whether there is a record i, and it is the interval of the key. Asked once, behind the search, whose steps tell two cases, where
     // `binary_search_by` would tell three.
     fn matches(&self, i: usize, key: u64) -> bool
-        ensures { result ≡ (ltb i (length self.now.records.now) && compare_is_eq (order (interval_at (records_of self.now) i) (keyed key 0))) }
+        ensures { result ≡ (ltb i (length self.now.records.now) && compare_is_eq (order (nth_interval (records_of self.now) i) (keyed key 0))) }
     {
         i < self.records.len() && key_in(&self.records[i]) == key
     }
@@ -150,8 +150,7 @@ fn write_record(s: &mut [u8], i: usize, f: Focal)
 
 impl<'a> Listing<'a> {
     // Puts an interval with its weight into the list, and answers its place: an equal interval gets the weight added. Where the list would
-    // then have 257, all bytes stay as they are; the place is answered then too, as an error, since it was promised before there was an
-    // Option, and so it is none.
+    // then have 257, all bytes stay as they are, and the place is an error: it is promised in both cases.
     #[tactic(auto, using(crate::proofs::Place::place_in))]
     pub fn insert(&mut self, f: Focal, hint: usize) -> Result<usize, usize>
         requires { Insertable self.old.bytes.now self.old.count f.weight }

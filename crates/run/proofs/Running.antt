@@ -31,7 +31,7 @@ use Rattle.records.proofs.RecordLaws.{length-records}
 use Rattle.records.proofs.Store.{drop_from}
 use Rattle.joins.specs.Filling.{Filled, fill}
 use Rattle.joins.specs.Joins.{pairs_in, Operand}
-use Rattle.joins.proofs.Filling.{grown}
+use Rattle.joins.proofs.Filling.{filled_room}
 use Rattle.joins.proofs.Answer.{fill_made}
 use Rattle.plan.specs.declared.Plan.{Plan}
 use Rattle.plan.specs.Plan.{components_of, entries_of}
@@ -255,5 +255,5 @@ module _ {p : Plan} {store₀ : List ℕ} (ready : Runnable p store₀) {allowan
         go : (b : Bool) → drop (needed p) (cond b store (holding_from store st.free made.list)) ≡ drop (needed p) store₀
         go true = running.stored.later
         go false =
-            drop_from store st.free made.list (needed p) (omega (arith, join_room, (grown [] (pairs_in op store (top_span st 2) (top_span st 1))).room (omega arith)))
+            drop_from store st.free made.list (needed p) (omega (arith, join_room, filled_room [] (pairs_in op store (top_span st 2) (top_span st 1)) (omega arith)))
             (omega (arith, join_room, ready.enough, running.stored.same_length)) ∙ running.stored.later

@@ -24,8 +24,7 @@ use Rattle.plan.specs.Tests.{test, first_broken, Unbroken, First}
 use Rattle.plan.proofs.Numbers.{accepted_by, refused_by, first_found, first_then}
 use Rattle.reading.specs.Reading.{Reading, sheet_tests, reading_as, read_of}
 use Rattle.reading.proofs.Decided.{read_number_is, read_refused}
-use Rattle.writing.specs.Writing.{written_of, bytes_after}
-use Rattle.writing.specs.Writing.{Written}
+use Rattle.writing.specs.Writing.{written_of, bytes_after, Written}
 use Rattle.writing.proofs.Theorems.{written_is_read, read_is_written}
 use Rattle.wire.specs.Wire.{plan_bytes, decode_plan, encode_plan}
 use Rattle.wire.proofs.RoundTrip.{plan_length, plan_back}

@@ -6,15 +6,12 @@ use native.Mathlib.Omega.{arith}
 use lib.ListN.{length, take, drop, length-append}
 use Rattle.numbers.specs.Numbers.{number_at}
 use Rattle.plan.specs.Plan.{cleaned_plan}
-use Rattle.reading.specs.Reading.{read_of}
-use Rattle.reading.specs.Reading.{Reading}
-use Rattle.writing.specs.Writing.{written_of, bytes_after}
-use Rattle.writing.specs.Writing.{Written}
+use Rattle.reading.specs.Reading.{read_of, Reading}
+use Rattle.writing.specs.Writing.{written_of, bytes_after, Written}
 use Rattle.writing.proofs.Theorems.{written_sheet, written_longest, written_is_read, read_is_written}
 use Rattle.wire.specs.Wire.{plan_bytes, decode_plan, encode_plan}
 use Rattle.wire.proofs.RoundTrip.{plan_length}
-use Rattle.sheets.specs.Sheets.{length_bytes, sheet_after, length_after, plan_after}
-use Rattle.sheets.specs.Sheets.{RoundTrips}
+use Rattle.sheets.specs.Sheets.{length_bytes, sheet_after, length_after, plan_after, RoundTrips}
 use Rattle.numbers.proofs.Numbers.{read_front}
 use Rattle.sheets.proofs.Fits.{read_fits}
 use Rattle.sheets.proofs.Writer.{long_enough, accepted_writes, write}
