@@ -106,6 +106,9 @@ extern "C" {
 #endif
 
 /* The version of this header and of the library that it came with. The soname has the first number. What changed
+ *   from 4.0.0 to 5.0.0   the list buffer needs 9,216 bytes; DRIVE_LIST_BYTES was 16,384. With 9,216 bytes or more what was 12 for the
+ *                         list may be accepted, or have a later number: 13, 14 or 16 to 18. A buffer of 16,384 bytes still serves:
+ *                         its bytes from 9,216 on, which became zero with 0, 13 and 14, stay as they are. Answers and lists are the same
  *   from 3.0.0 to 4.0.0   a shared join gives the sum or 4,095, whichever is smaller, where it gave the sum. Above 4,095 shares are 0,
  *                         and a promised speed is 4,095 where it was more; other shares and speeds are the same. Where sums exceed
  *                         4,095 lists may be others and shorter, and pair counts smaller: what was 13 may be accepted, what was 14
@@ -114,10 +117,10 @@ extern "C" {
  *                         is record n - 1 - i, and no compiler says so. Plans, sheets, numbers and all other answers are the same
  *   from 1.2.0 to 2.0.0   weights that add to less than T leave a rest, where they were number 8; DRIVE_PAIRS_MAX was 66,688;
  *                         drive_plan_rest is new */
-#define DRIVE_VERSION_MAJOR 4
+#define DRIVE_VERSION_MAJOR 5
 #define DRIVE_VERSION_MINOR 0
 #define DRIVE_VERSION_PATCH 0
-#define DRIVE_VERSION "4.0.0"
+#define DRIVE_VERSION "5.0.0"
 
 /* The limits of a plan of edition one, and the codes of its joins. Edition two will have others. */
 #define DRIVE_MODULES_MAX 6
@@ -139,7 +142,7 @@ extern "C" {
 #define DRIVE_PLAN_BYTES 336        /* a plan */
 #define DRIVE_SHEET_BYTES_MAX 224   /* the longest sheet */
 #define DRIVE_LENGTH_BYTES 8        /* the answer of drive_write_sheet */
-#define DRIVE_LIST_BYTES 16384      /* the list buffer of drive_bounds, drive_set and drive_speed */
+#define DRIVE_LIST_BYTES 9216       /* the list buffer of drive_bounds, drive_set and drive_speed: two lists of 256 and their join */
 #define DRIVE_ANSWER_BYTES 40       /* the answer of drive_bounds */
 #define DRIVE_SET_ANSWER_BYTES 24   /* the answer of drive_set, beside the shares */
 #define DRIVE_DEMAND_BYTES 4        /* each demand of drive_set */
@@ -298,7 +301,7 @@ static inline uint32_t drive_plan_read_entry(const uint8_t *plan, uint64_t i) {
  * What the caller sees to:
  *   - Each pointer has that many bytes behind it. A pointer may be NULL where its length is 0. No alignment is asked for.
  *   - No buffer overlaps another, and nothing else writes to them during the call.
- *   - DRIVE_STACK_BYTES bytes of stack are left. Measured: up to 9,488 for drive_bounds, drive_set and drive_speed, and 2,640 for the
+ *   - DRIVE_STACK_BYTES bytes of stack are left. Measured: up to 3,520 for drive_bounds, drive_set and drive_speed, and 2,640 for the
  *     others; up to 3,248 more for the first call under lazy binding, where functions of the C library are looked up at first use.
  * No other input, whatever its bytes, can make a call fail, run on or touch other memory.
  *
@@ -345,7 +348,7 @@ uint32_t drive_read_sheet(const uint8_t *sheet, size_t sheet_length, uint8_t *pl
  *   list, list_length       the list buffer: working memory, and the drive's list afterwards
  *   answer, answer_length   the answer buffer: drive_read_answer
  *
- *   number      answer, first 40 bytes      list, first 16,384 bytes
+ *   number      answer, first 40 bytes      list, first 9,216 bytes
  *   0           total, belief,              the drive's list, the fastest interval first, in records of 12 bytes (low 16 bits, high
  *               plausibility, pair count,   16 bits, weight 64 bits): see drive_read_interval; then zero
  *               list length
@@ -373,7 +376,7 @@ uint32_t drive_bounds(const uint8_t *sheet, size_t sheet_length, uint32_t demand
  *   answer, answer_length     the answer buffer, behind the shares: exchanged, the two are accepted where both are long enough. Read
  *                             both with drive_read_shares
  *
- *   number            answer, first 24 bytes   shares                      list, first 16,384 bytes
+ *   number            answer, first 24 bytes   shares                      list, first 9,216 bytes
  *   0                 total, pair count,       16 bytes for each demand,   the drive's list, as drive_bounds leaves it
  *                     list length              at the front
  *   13, 14            zero                     unchanged                   zero
@@ -393,7 +396,7 @@ uint32_t drive_set(const uint8_t *sheet, size_t sheet_length, const uint8_t *dem
  *                           vouch for is then "at least 95 % of the time at SPEED or faster"
  *   answer, answer_length   the answer buffer: drive_read_speed_answer
  *
- *   number        answer, first 48 bytes                     list, first 16,384 bytes
+ *   number        answer, first 48 bytes                     list, first 9,216 bytes
  *   0             the answers of drive_bounds with the       the drive's list, as drive_bounds leaves it
  *                 speed as its demand; then the speed
  *   13, 14        zero                                       zero
@@ -426,7 +429,7 @@ uint32_t drive_speed(const uint8_t *sheet, size_t sheet_length, uint32_t target,
     X(10, DRIVE_E_NAMED, "a module is named twice or never") \
     X(11, DRIVE_E_JOIN, "a join finds fewer than two lists") \
     X(12, DRIVE_E_BUFFER, \
-      "a buffer is too short: plan 336 bytes, writer's answer 8, list 16,384, answer 40 (of drive_set 24, of drive_speed 48)") \
+      "a buffer is too short: plan 336 bytes, writer's answer 8, list 9,216, answer 40 (of drive_set 24, of drive_speed 48)") \
     X(13, DRIVE_E_ALLOWANCE, "the pairs formed so far and those of this join exceed the allowance") \
     X(14, DRIVE_E_LIST, "a join's list has more than 256 different intervals") \
     X(15, DRIVE_E_SHEET_BUFFER, "the writer's sheet buffer is shorter than the sheet") \

@@ -244,7 +244,7 @@ int main(int argc, char **argv) {
     }
 
     printf("Nanoseconds a call, the median of %d turns of about %d microseconds each. The turns of the call and of plain C alternate.\n"
-           "The buffers are not cleared between calls; both write all 16,384 bytes of the list and 40 of the answer (drive_speed 48,\n"
+           "The buffers are not cleared between calls; both write all 9,216 bytes of the list and 40 of the answer (drive_speed 48,\n"
            "drive_set 24 and 256 of shares).\n\n",
            TURNS, TURN_NS / 1000);
     printf("%-22s %9s %11s %11s %7s\n", "sheet", "pairs", "call", "plain C", "ratio");

@@ -9,8 +9,9 @@ enum {
     SPEED_MAX = 4095,
     ENTRIES = 2 * COMPONENTS - 1,
     INTERVALS = 256,
+    STORED = 3 * INTERVALS, /* two lists and their join */
     RECORD_BYTES = 12,
-    LIST_BYTES = 16384,
+    LIST_BYTES = STORED * RECORD_BYTES,
     ANSWER_BYTES = 40,
     SET_ANSWER_BYTES = 24,
     SPEED_ANSWER_BYTES = 48,
@@ -38,9 +39,10 @@ struct plan {
     uint8_t entry[ENTRIES];
 };
 
+/* A list and its place in the store. */
 struct list {
     unsigned count;
-    struct focal focal[INTERVALS];
+    struct focal *focal;
 };
 
 /* Fields of bits, most significant first. */
@@ -168,38 +170,39 @@ static void put_leaf(const struct component *c, struct list *out) {
 }
 
 /* The join of two lists; 0 where it has too many intervals. */
-static int join(unsigned entry, const struct list *x, const struct list *y, struct list *out) {
-    out->count = 0;
-    for (unsigned i = 0; i < x->count; i++) {
-        for (unsigned j = 0; j < y->count; j++) {
-            struct focal f = {join_keys(entry, x->focal[i].key, y->focal[j].key), x->focal[i].weight * y->focal[j].weight};
-            if (!insert(out, f)) return 0;
+static int join(unsigned entry, struct list x, struct list y, struct list *out) {
+    struct list made = {0, out->focal}; /* a copy, so that its length stays in a register */
+    for (unsigned i = 0; i < x.count; i++) {
+        for (unsigned j = 0; j < y.count; j++) {
+            struct focal f = {join_keys(entry, x.focal[i].key, y.focal[j].key), x.focal[i].weight * y.focal[j].weight};
+            if (!insert(&made, f)) return 0;
         }
     }
+    *out = made;
     return 1;
 }
 
-/* Runs the structure on a stack of lists: refusals 13 and 14, or 0, the drive's list and the pair count. */
-static unsigned run(const struct plan *p, uint32_t allowance, struct list lists[COMPONENTS + 1], const struct list **drive,
-                    uint64_t *pairs) {
-    struct list *stack[COMPONENTS + 1]; /* the lists on the stack, then the free ones */
-    unsigned depth = 0;
-    for (unsigned i = 0; i <= COMPONENTS; i++) stack[i] = &lists[i];
+/* Runs the structure on a stack of lists: refusals 13 and 14, or 0, the drive's list and the pair count. The lists stand in the
+ * store one behind the other; a join's list is made behind its two and then moved to where the left one stood. */
+static unsigned run(const struct plan *p, uint32_t allowance, struct focal store[STORED], struct list *drive, uint64_t *pairs) {
+    struct list stack[COMPONENTS + 1], *top = stack; /* the place of the next list */
+    top->focal = store;
     *pairs = 0;
     for (unsigned i = 0; i < p->entries; i++) {
         unsigned e = p->entry[i];
         if (e < COMPONENTS) {
-            put_leaf(&p->component[e], stack[depth++]);
+            put_leaf(&p->component[e], top);
         } else {
-            struct list *x = stack[depth - 2], *out = stack[depth];
-            const struct list *y = stack[depth - 1];
+            struct list *x = top - 2, *y = top - 1;
             *pairs += (uint64_t)x->count * y->count;
             if (*pairs > allowance) return 13;
-            if (!join(e, x, y, out)) return 14;
-            stack[depth] = x;
-            stack[depth - 2] = out;
-            depth--;
+            if (!join(e, *x, *y, top)) return 14;
+            memmove(x->focal, top->focal, top->count * sizeof *top->focal);
+            x->count = top->count;
+            top = x;
         }
+        top[1].focal = top->focal + top->count;
+        top++;
     }
     *drive = stack[0];
     return 0;
@@ -260,9 +263,9 @@ static uint32_t greatest_demand(const struct list *drive, uint64_t least) {
 
 /* A sheet that is read and run. */
 struct job {
-    struct list lists[COMPONENTS + 1];
+    struct focal store[STORED];
     struct plan plan;
-    const struct list *drive;
+    struct list drive;
     uint64_t pairs;
 };
 
@@ -275,7 +278,7 @@ static unsigned start(struct job *j, const uint8_t *sheet, size_t sheet_length, 
     if (number == 0 && list_length < LIST_BYTES) number = 12;
     if (number == 0) number = refused;
     if (number == 0) {
-        number = run(&j->plan, allowance, j->lists, &j->drive, &j->pairs);
+        number = run(&j->plan, allowance, j->store, &j->drive, &j->pairs);
         if (number != 0) memset(list, 0, LIST_BYTES);
     }
     if (number != 0) { /* zeros in pieces of fixed length, which the compiler stores at once */
@@ -287,11 +290,11 @@ static unsigned start(struct job *j, const uint8_t *sheet, size_t sheet_length, 
 
 /* The list and the five answers at a demand; where the sixth goes. */
 static uint8_t *put_bounds(const struct job *j, uint32_t demand, uint8_t *list, uint8_t *answer) {
-    put_list(j->drive, list);
+    put_list(&j->drive, list);
     answer = put64(answer, total_of(&j->plan));
-    answer = put_shares(j->drive, demand, answer);
+    answer = put_shares(&j->drive, demand, answer);
     answer = put64(answer, j->pairs);
-    return put64(answer, j->drive->count);
+    return put64(answer, j->drive.count);
 }
 
 uint32_t plain_bounds(const uint8_t *sheet, size_t sheet_length, uint32_t demand, uint32_t allowance, uint8_t *list,
@@ -309,7 +312,7 @@ uint32_t plain_speed(const uint8_t *sheet, size_t sheet_length, uint32_t target,
     unsigned number =
         start(&j, sheet, sheet_length, refused, allowance, list, list_length, answer, answer_length, SPEED_ANSWER_BYTES);
     if (number == 0) {
-        uint32_t speed = greatest_demand(j.drive, least_belief(target, total_of(&j.plan)));
+        uint32_t speed = greatest_demand(&j.drive, least_belief(target, total_of(&j.plan)));
         put64(put_bounds(&j, speed, list, answer), speed);
     }
     return number;
@@ -323,10 +326,10 @@ uint32_t plain_set(const uint8_t *sheet, size_t sheet_length, const uint8_t *dem
     if (demands_length % DEMAND_BYTES != 0 || count < 1 || count > DEMANDS) refused = 17;
     unsigned number = start(&j, sheet, sheet_length, refused, allowance, list, list_length, answer, answer_length, SET_ANSWER_BYTES);
     if (number != 0) return number;
-    put_list(j.drive, list);
-    for (size_t i = 0; i < count; i++) shares = put_shares(j.drive, get32(demands + i * DEMAND_BYTES), shares);
+    put_list(&j.drive, list);
+    for (size_t i = 0; i < count; i++) shares = put_shares(&j.drive, get32(demands + i * DEMAND_BYTES), shares);
     answer = put64(answer, total_of(&j.plan));
     answer = put64(answer, j.pairs);
-    put64(answer, j.drive->count);
+    put64(answer, j.drive.count);
     return 0;
 }

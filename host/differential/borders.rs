@@ -1,11 +1,12 @@
 //! The borders that a run has to meet: values at a limit and one beyond.
 
-use crate::choices::{self, Focal, Run, CEILING, MOST, MOST_PAIRS, WITH_REST};
+use crate::cases::LONG_LIST;
+use crate::choices::{self, Focal, Join, Run, CEILING, MOST, MOST_PAIRS, WITH_REST};
 use crate::expect::{
     right_length, right_target, Asked, Question, Reply, Set, DEMAND_BYTES, LENGTH_BYTES, LIST_BYTES, MOST_DEMANDS,
     TOP_TARGET,
 };
-use crate::plan::{Component, Plan, COMPONENTS, INTERVALS, PLAN_BYTES};
+use crate::plan::{Component, Plan, COMPONENTS, INTERVALS, PLAN_BYTES, SERIES, SHARED};
 use crate::rules::{self, TOP_SPEED, TOP_TOTAL, WHOLE};
 use crate::sheet;
 
@@ -26,6 +27,14 @@ borders! {
     Pairs81: "a join of two components with lists of nine intervals: 81 pairs",
     Choices262144: "six components of eight intervals and no rest: 224 bytes, 262,144 choices",
     Choices531441: "six components of eight intervals and a rest: 224 bytes, 531,441 choices",
+    Records768: "two lists of 256 intervals joined to one of 256: 768 records",
+    Records769: "two lists of 256 intervals joined to more than 256: 769 records, refused",
+    Shared256: "two lists of 256 intervals in a shared join that the ceiling leaves at 256 or fewer",
+    Behind256: "a join of two lists behind 256 records or more",
+    Stack6: "six components' lists on the stack before the first join",
+    LeafBehind256: "a component's list behind a join's list of 256 intervals",
+    LeafBehindLonger: "a component's list behind a join's list that is longer than the two joined together",
+    LeafBehindShorter: "a component's list behind a join's list that is shorter than the first of the two joined",
     SumAt: "two speeds above 0 in a shared join that add to 4,095",
     CutHigh: "highs in a shared join that add to more than 4,095, and their lows do not",
     CutBoth: "lows in a shared join that add to more than 4,095",
@@ -117,8 +126,12 @@ borders! {
     SpeedFirst: "a speed that is the first of several lows",
     SpeedLast: "a speed that is the last of several lows",
     Sheet256: "a sheet 256 bytes longer than its length byte says, refused",
-    List: "a list buffer of 16,384 bytes",
-    ListLess: "a list buffer of 16,383 bytes, refused",
+    List: "a list buffer of 9,216 bytes",
+    ListLess: "a list buffer of 9,215 bytes, refused",
+    ListMore: "a list buffer of 9,217 bytes, the last of which stays",
+    ListLong: "a list buffer of 16,384 bytes, the last 7,168 of which stay",
+    ListStay13: "13 with bytes behind the first 9,216 of the list buffer, which stay",
+    ListStay14: "14 with bytes behind the first 9,216 of the list buffer, which stay",
     Answer: "an answer buffer of 40 bytes",
     AnswerLess: "an answer buffer of 39 bytes, refused",
     SetAnswer: "an answer buffer of 24 bytes for a set",
@@ -190,8 +203,13 @@ impl Borders {
 
     /// A call of drive_bounds, drive_set or drive_speed that has to return this number.
     pub fn of_question(&mut self, question: &Question, number: u32) {
-        self.met(Border::List, number == 0 && question.list == LIST_BYTES);
-        self.met(Border::ListLess, number == 12 && question.list + 1 == LIST_BYTES);
+        let list = question.list;
+        self.met(Border::List, number == 0 && list == LIST_BYTES);
+        self.met(Border::ListLess, number == 12 && list + 1 == LIST_BYTES);
+        self.met(Border::ListMore, number == 0 && list == LIST_BYTES + 1);
+        self.met(Border::ListLong, number == 0 && list == LONG_LIST);
+        self.met(Border::ListStay13, number == 13 && list > LIST_BYTES);
+        self.met(Border::ListStay14, number == 14 && list > LIST_BYTES);
         let (exact, less) = match &question.asked {
             Asked::Demand(demand) => {
                 self.met(Border::DemandZero, number == 0 && *demand == 0);
@@ -287,7 +305,9 @@ impl Borders {
     pub fn of_run(&mut self, run: &Run, question: &Question, expected: &Reply) {
         let (allowance, number) = (u64::from(question.allowance), expected.number);
         let joins = &run.joins;
-        self.met(Border::Intervals257, number == 14 && joins[joins.len() - 1].intervals == MOST + 1);
+        let last = joins.last().filter(|_| number == 14);
+        self.met(Border::Intervals257, last.is_some_and(|join| join.intervals == MOST + 1));
+        self.met(Border::Records769, last.is_some_and(|join| join.left == MOST && join.right == MOST));
         self.met(Border::AllowanceLess, number == 13 && joins.iter().any(|join| join.pairs == allowance + 1));
         // Plans with more choices would take too long a second time.
         if run.sums.above() && run.choices <= 8_192 && matches!(number, 0 | 14) {
@@ -304,6 +324,7 @@ impl Borders {
         self.met(Border::Choices262144, run.choices == INTERVALS.pow(COMPONENTS as u32) && !run.plan.has_rest());
         self.met(Border::Choices531441, run.choices == WITH_REST.pow(COMPONENTS as u32));
         self.met(Border::SumAt, run.sums.at);
+        self.of_places(run);
         self.of_rests(&run.plan);
         self.of_list(run);
         self.met(Border::Total, run.total == 10u64.pow(18));
@@ -357,6 +378,26 @@ impl Borders {
             }
             Asked::Target(target) => self.met(Border::SpeedCeiling, without.over(lows, *target) >= 0),
         }
+    }
+
+    /// What makes the places of the lists in the list buffer matter.
+    fn of_places(&mut self, run: &Run) {
+        let (joins, structure) = (&run.joins, run.plan.structure());
+        let leaf = |entry: &u16| *entry < SERIES;
+        let records = |join: &Join| join.below + join.left + join.right + join.intervals;
+        self.met(Border::Records768, joins.iter().any(|join| records(join) == 3 * MOST));
+        // A list of 256 intervals has three components or more: only the last join can take two.
+        let last = joins.last().filter(|_| structure.last() == Some(&SHARED));
+        self.met(Border::Shared256, last.is_some_and(|join| join.left == MOST && join.right == MOST));
+        self.met(Border::Behind256, joins.iter().any(|join| join.below >= MOST));
+        self.met(Border::Stack6, structure.iter().take_while(|entry| leaf(entry)).count() == COMPONENTS);
+        // For each join but the last whether a component's list comes next.
+        let next = structure.windows(2).filter(|pair| !leaf(&pair[0])).map(|pair| leaf(&pair[1]));
+        let before_leaf: Vec<&Join> = joins.iter().zip(next).filter_map(|(join, leaf)| leaf.then_some(join)).collect();
+        let any = |found: fn(&Join) -> bool| before_leaf.iter().any(|join| found(join));
+        self.met(Border::LeafBehind256, any(|join| join.intervals == MOST));
+        self.met(Border::LeafBehindLonger, any(|join| join.intervals > join.left + join.right));
+        self.met(Border::LeafBehindShorter, any(|join| join.intervals < join.left));
     }
 
     fn of_rests(&mut self, plan: &Plan) {

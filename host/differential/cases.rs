@@ -10,6 +10,9 @@ use crate::sheet::pack;
 use crate::tally::{SET, SPEED};
 use crate::valid;
 
+/// A list buffer that is longer than it needs to be, as programs lend it that were written for 16,384 bytes.
+pub const LONG_LIST: usize = 16_384;
+
 /// A sheet: that of the plan, with one rule broken, with several, or spoiled at random.
 fn sheet_of(random: &mut Random, plan: &Plan) -> Vec<u8> {
     match random.below(100) {
@@ -83,7 +86,7 @@ pub fn question(random: &mut Random, call: usize, run: Option<&Run>) -> Question
     };
     Question {
         allowance: allowance(random, run),
-        list: length(random, LIST_BYTES, 8),
+        list: if random.chance(2) { LONG_LIST } else { length(random, LIST_BYTES, 8) },
         answer: length(random, asked.answer_bytes(), 8),
         asked,
     }

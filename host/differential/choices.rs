@@ -11,7 +11,7 @@ pub const WITH_REST: usize = INTERVALS + 1;
 /// The most intervals of a join's list.
 pub const MOST: usize = 256;
 /// Beyond this many, the intervals of a join are not counted on.
-const COUNTED: usize = 2 * MOST;
+const COUNTED: usize = MOST + 1;
 /// The most pairs: two groups of three components, each joined to 81 intervals, then to 256, and the two lists joined.
 pub const MOST_PAIRS: u32 = 2 * (81 + 729) + 256 * 256;
 /// The greatest speed that a shared join gives, however great the sum.
@@ -40,6 +40,11 @@ pub struct Join {
     pub pairs: u64,
     /// The different intervals of its list.
     pub intervals: usize,
+    /// Those of the two lists that it takes.
+    pub left: usize,
+    pub right: usize,
+    /// Those of all lists that stay on the stack under them.
+    pub below: usize,
 }
 
 /// The joins in the order of the structure, up to the first with more than 256 intervals; the drive's list if there is
@@ -156,8 +161,10 @@ fn run_up_to(plan: &Plan, ceiling: u32) -> Run {
         let (_, right) = stack.pop().expect("two lists");
         let (start, left) = stack.pop().expect("two lists");
         run.list = list(&components, &structure[start..=place], &mut run.sums);
-        stack.push((start, run.list.len()));
-        run.joins.push(Join { pairs: run.pairs() + (left * right) as u64, intervals: run.list.len() });
+        let (pairs, intervals) = (run.pairs() + (left * right) as u64, run.list.len());
+        let below = stack.iter().map(|(_, intervals)| intervals).sum();
+        run.joins.push(Join { pairs, intervals, left, right, below });
+        stack.push((start, intervals));
         if run.list.len() > MOST {
             run.list.clear();
             break;

@@ -5,7 +5,8 @@ use crate::choices::Run;
 use crate::plan::{Plan, PLAN_BYTES};
 use crate::sheet;
 
-pub const LIST_BYTES: usize = 16_384;
+/// What the list buffer needs: 768 records.
+pub const LIST_BYTES: usize = 9_216;
 /// The writer's answer: the sheet's length.
 pub const LENGTH_BYTES: usize = 8;
 

@@ -20,15 +20,15 @@ pub fn any(random: &mut Random) -> Plan {
 /// A plan to be run: most have few choices of one interval per component, since all of them are enumerated.
 pub fn to_run(random: &mut Random) -> Plan {
     match random.below(10_000) {
-        0..=7 => two_ladders(random, WITH_REST, WITH_REST),
+        0..=7 => two_ladders(random, WITH_REST, WITH_REST, &[SERIES, SPARE]),
         8 => widest(random, WITH_REST),
-        9..=11 => two_ladders(random, INTERVALS, INTERVALS),
+        9..=11 => two_ladders(random, INTERVALS, INTERVALS, &[SERIES, SPARE]),
         12..=18 => widest(random, INTERVALS),
-        19..=24 => {
-            let (base, last) = (random.pick(&[INTERVALS, WITH_REST]), random.pick(&[4, 5]));
-            two_ladders(random, base, last)
+        19..=58 => {
+            let (base, last) = (random.pick(&[INTERVALS, INTERVALS, INTERVALS, WITH_REST]), random.pick(&[4, 5]));
+            two_ladders(random, base, last, &[SERIES, SPARE, SHARED, SHARED, SHARED, SHARED])
         }
-        25..=1_199 => ladder(random),
+        59..=1_199 => ladder(random),
         1_200..=1_259 => up_to(random, 32_768),
         1_260..=1_799 => up_to(random, 2_048),
         1_800..=2_199 => heaviest(up_to(random, 256)),
@@ -244,18 +244,23 @@ fn structure(random: &mut Random, n: usize) -> Vec<u16> {
 
 /// The same with joins drawn from one of these.
 fn joined(random: &mut Random, n: usize, kinds: &[&[u16]]) -> Vec<u16> {
-    let mut names: Vec<u16> = (0..n as u16).collect();
-    random.shuffle(&mut names);
+    let names = (0..n as u16).map(|name| vec![name]).collect();
+    parts_joined(random, names, kinds)
+}
+
+/// A structure of these parts, each of which leaves one list on the stack.
+fn parts_joined(random: &mut Random, mut parts: Vec<Vec<u16>>, kinds: &[&[u16]]) -> Vec<u16> {
+    random.shuffle(&mut parts);
     let joins = random.pick(kinds);
-    let early = random.pick(&[0, 50, 100]); // how often a join comes before the next component
+    let early = random.pick(&[0, 0, 50, 100]); // how often a join comes before the next part
     let mut entries = Vec::new();
     let mut lists = 0;
-    while lists != 1 || !names.is_empty() {
-        if lists >= 2 && (names.is_empty() || random.chance(early)) {
+    while lists != 1 || !parts.is_empty() {
+        if lists >= 2 && (parts.is_empty() || random.chance(early)) {
             entries.push(random.pick(joins));
             lists -= 1;
         } else {
-            entries.extend(names.pop());
+            entries.extend(parts.pop().expect("a part"));
             lists += 1;
         }
     }
@@ -330,7 +335,7 @@ impl Ladder {
     }
 }
 
-/// A join of 255 to 258 intervals, with up to three further components joined to it.
+/// A join of 255 to 258 intervals, and up to three further components.
 fn ladder(random: &mut Random) -> Plan {
     let size: usize = random.pick(&[255, 256, 256, 256, 257, 257, 257, 258]);
     let base = random.pick(&[INTERVALS, INTERVALS, WITH_REST]);
@@ -375,33 +380,34 @@ fn ladder_past_ceiling(random: &mut Random) -> Plan {
     with_further(random, components, ladder.unit)
 }
 
-/// Three components, shared in any order, and up to three further ones joined to them.
+/// Three components, shared in any order, and up to three further ones, joined with their list and with each other.
 fn with_further(random: &mut Random, mut components: Vec<Component>, unit: u16) -> Plan {
     let mut names = [0, 1, 2];
     random.shuffle(&mut names);
     let [a, b, c] = names;
-    let mut entries = random.pick(&[[a, b, SHARED, c, SHARED], [a, b, c, SHARED, SHARED]]).to_vec();
+    let mut parts = vec![random.pick(&[[a, b, SHARED, c, SHARED], [a, b, c, SHARED, SHARED]]).to_vec()];
     for further in 3..random.pick(&[3, 3, 3, 4, 4, 5, 6]) {
         let (count, single, rest) = (random.between(1, 2), random.chance(50), random.chance(20));
         components.push(component(random, count, &[0, 1, unit, 300, 1_000, TOP_SPEED], single, rest));
-        entries.extend([further, random.pick(&[SERIES, SHARED, SPARE])]);
+        parts.push(vec![further]);
     }
-    plan(&components, &entries)
+    plan(&components, &parts_joined(random, parts, &[&[SERIES, SHARED, SPARE]]))
 }
 
-/// Two joins of 256 intervals each, joined: 65,536 choices where `base` is 8 and `last` 4; 531,441 and 67,156 pairs, the
-/// most that there are, where both are 9.
-fn two_ladders(random: &mut Random, base: usize, last: usize) -> Plan {
+/// Two joins of 256 intervals each, joined by one of these: 65,536 choices where `base` is 8 and `last` 4; 531,441 and
+/// 67,156 pairs, the most that there are, where both are 9. In series or as spares they have 256 intervals again. The
+/// second often goes up to 4,095 if it is of single speeds; a shared join then has 256 intervals or fewer.
+fn two_ladders(random: &mut Random, base: usize, last: usize, joins: &[u16]) -> Plan {
     let ladder = Ladder::of(random, base);
     let (by, width) = (random.pick(&[0, 0, 5]), random.pick(&[0, 0, 3]));
+    let up = TOP_SPEED - 255 * ladder.unit;
     let mut components = Vec::new();
-    for _ in 0..2 {
+    for by in [by, random.pick(&[by, up, up, up])] {
         let [ones, bases, starts] = ladder.rungs(random, 256, last);
         components.push(ladder.component(random, ones, by, width));
         for ends in [bases, starts] {
             components.push(ladder.component(random, ends, 0, 0));
         }
     }
-    let join = random.pick(&[SERIES, SERIES, SERIES, SPARE, SPARE, SPARE, SHARED]);
-    plan(&components, &[0, 1, SHARED, 2, SHARED, 3, 4, SHARED, 5, SHARED, join])
+    plan(&components, &[0, 1, SHARED, 2, SHARED, 3, 4, SHARED, 5, SHARED, random.pick(joins)])
 }

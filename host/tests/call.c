@@ -1,11 +1,17 @@
-/* The five calls on every number, with buffers too short, exact and too long, on the bench table, on rests, on the order of lists and
- * blocks and on the ceiling of shared joins. C and C++. */
+/* The five calls on every number, with buffers too short, exact and too long, on the places of lists in the list buffer, on the bench
+ * table, on rests, on the order of lists and blocks and on the ceiling of shared joins. C and C++. */
 #include "common.h"
 
 /* One component. */
 static struct plan one(struct component c) {
     static const uint16_t entry[1] = {0};
     return make_plan(1, &c, entry);
+}
+
+/* A module that always runs at one speed. */
+static struct component always(unsigned speed) {
+    const struct component c = {1, 1, {{speed, speed, 1}}};
+    return c;
 }
 
 /* A log of 940 hours of 1,000, and one that says of 25 others what the rest says of them: their lists are the same. */
@@ -71,11 +77,17 @@ static uint8_t *pointer(struct lent b) { return b.length != 0 ? b.bytes : NULL; 
 /* What is only read can not be written during the call. */
 static void only_read(struct fence pages, int on) { mprotect(from_start(pages), pages.size, on ? PROT_READ : PROT_READ | PROT_WRITE); }
 
-/* The sheet that reaches a number, and the allowance of the call. */
+/* Case P2 of the bench table at demand 3: the answers and the list. */
+static const uint64_t p2_answer[] = {12, 9, 10, 4, 4};
+static const struct drive_interval p2_list[] = {{3, 7, 3}, {3, 4, 6}, {1, 4, 1}, {1, 1, 2}};
+
+/* The sheet that reaches a number, and the allowance of the call. The list is the drive's where the number is 0. */
 struct row {
     uint32_t number, allowance;
     struct plan plan;
     struct sheet sheet;
+    const struct drive_interval *list;
+    size_t intervals;
 };
 
 enum { ROWS = 24 };
@@ -86,14 +98,22 @@ struct rows {
     struct row row[ROWS];
 };
 
-/* Adds the sheet of a plan; what is returned may still be damaged. */
-static struct sheet *add(struct rows *rows, uint32_t number, uint32_t allowance, const struct plan *p) {
+/* Adds the sheet of a plan with this list; what is returned may still be damaged. */
+static struct sheet *add_with_list(struct rows *rows, uint32_t number, uint32_t allowance, const struct plan *p,
+                                   const struct drive_interval *list, size_t intervals) {
     struct row *r = &rows->row[rows->count++];
     r->number = number;
     r->allowance = allowance;
     r->plan = *p;
     r->sheet = make_sheet(p);
+    r->list = list;
+    r->intervals = intervals;
     return &r->sheet;
+}
+
+/* The same with the list of case P2. */
+static struct sheet *add(struct rows *rows, uint32_t number, uint32_t allowance, const struct plan *p) {
+    return add_with_list(rows, number, allowance, p, p2_list, 4);
 }
 
 /* Each number from 0 to 14, those with several causes more than once. 12 is met by short buffers. */
@@ -137,14 +157,10 @@ static void add_rows(struct rows *rows) {
     add(rows, 14, 384, &wide);
 }
 
-static const size_t list_lengths[] = {0, 1, DRIVE_LIST_BYTES - 1, DRIVE_LIST_BYTES, DRIVE_LIST_BYTES + 1, DRIVE_LIST_BYTES + 5000};
+static const size_t list_lengths[] = {0, 1, DRIVE_LIST_BYTES - 1, DRIVE_LIST_BYTES, DRIVE_LIST_BYTES + 1, OLD_LIST_BYTES};
 static const size_t plan_lengths[] = {0, 1, DRIVE_PLAN_BYTES - 1, DRIVE_PLAN_BYTES, DRIVE_PLAN_BYTES + 1, 400};
 static const size_t length_lengths[] = {0, 1, DRIVE_LENGTH_BYTES - 1, DRIVE_LENGTH_BYTES, DRIVE_LENGTH_BYTES + 1, 100};
-enum { LENGTHS = 6, LIST_ROOM = DRIVE_LIST_BYTES + 8192, ROOM = 4096 };
-
-/* Case P2 of the bench table at demand 3: the answers and the list. */
-static const uint64_t p2_answer[] = {12, 9, 10, 4, 4};
-static const struct drive_interval p2_list[] = {{3, 7, 3}, {3, 4, 6}, {1, 4, 1}, {1, 1, 2}};
+enum { LENGTHS = 6, LIST_ROOM = OLD_LIST_BYTES + 64, ROOM = 4096 };
 
 static int list_is(const uint8_t *list, const struct drive_interval *want, size_t count) {
     for (size_t i = 0; i < count; i++) {
@@ -159,7 +175,7 @@ static int values_are(struct drive_answer a, const uint64_t *want) {
 }
 
 /* A call and what it is asked, a demand, a target or so many bytes of demands: the number that refuses this, or 0; the bytes of the
- * answer; the answers to case P2. */
+ * answer; the answers to case P2, or to another that is accepted. */
 struct ask {
     bounds_fn *call;
     uint32_t asked, refused;
@@ -189,6 +205,14 @@ static int answers_are(const uint8_t *answer, const struct ask *a) {
     return 1;
 }
 
+/* The buffers that only drive_set has; the shares' is so long, and both stand behind a fence or before one. The row that is tried. */
+static struct {
+    struct fence demands, shares;
+    size_t shares_length;
+    int at_end;
+    const struct row *row;
+} set_pages;
+
 /* One call of drive_bounds, drive_set or drive_speed with these lengths. */
 static void try_ask(const struct ask *a, const struct row *r, size_t list_length, size_t answer_length, int at_end,
                     struct fence sheet_pages, struct fence list_pages, struct fence answer_pages) {
@@ -198,6 +222,7 @@ static void try_ask(const struct ask *a, const struct row *r, size_t list_length
     uint32_t want = r->number >= 1 && r->number <= 11 ? r->number : !fits ? 12 : a->refused != 0 ? a->refused : r->number;
     size_t list_from = 0, answer_from = 0;
 
+    set_pages.row = r;
     only_read(sheet_pages, 1);
     uint32_t got = a->call(pointer(sheet), sheet.length, a->asked, r->allowance, pointer(list), list_length, pointer(answer),
                            answer_length);
@@ -206,11 +231,13 @@ static void try_ask(const struct ask *a, const struct row *r, size_t list_length
     EXPECT(got == want, "number %u, not %u, asked %u, with list %zu, answer %zu", got, want, a->asked, list_length, answer_length);
     if (answer_length >= a->bytes) {
         answer_from = a->bytes;
-        EXPECT(want == 0 ? answers_are(answer.bytes, a) : holds_zeros(answer.bytes, 0, answer_from), "answer of number %u", want);
+        EXPECT(want == 0 ? answers_are(answer.bytes, a) : holds_zeros(answer.bytes, 0, answer_from),
+               "answer of number %u, allowance %u", want, r->allowance);
     }
     if (want == 0 || want == 13 || want == 14) {
         list_from = DRIVE_LIST_BYTES;
-        EXPECT(want == 0 ? list_is(list.bytes, p2_list, 4) : holds_zeros(list.bytes, 0, list_from), "list of number %u", want);
+        EXPECT(want == 0 ? list_is(list.bytes, r->list, r->intervals) : holds_zeros(list.bytes, 0, list_from),
+               "list of number %u, allowance %u", want, r->allowance);
     }
     EXPECT(holds_marks(answer.bytes, answer_from, answer.filled), "number %u touched the answer buffer", want);
     EXPECT(holds_marks(list.bytes, list_from, list.filled), "number %u touched the list buffer", want);
@@ -248,35 +275,28 @@ static void try_rows(const struct ask *a, const struct rows *rows, struct fence 
                     try_ask(a, &rows->row[r], list_lengths[i], answer_lengths[j], at_end, sheet, list, answer);
 }
 
-/* Demands for case P2, in no order: some equal, the least, the greatest, some that would be 3 if they were cut to 8, 16 or 24 bits.
- * The last is one too many. */
-static const uint32_t p2_demands[DRIVE_DEMANDS_MAX + 1] = {
+/* Demands, in no order: some equal, the least, the greatest, some that would be 3 if they were cut to 8, 16 or 24 bits. The last is one
+ * too many. */
+static const uint32_t some_demands[DRIVE_DEMANDS_MAX + 1] = {
     3, 8, 0, 7, UINT32_MAX, 4, 1, 256 + 3, 5, 65536 + 3, 2, 3, 16777216 + 3, 6, 0, 1, 2,
 };
 
-/* Belief and plausibility at a demand in case P2. */
-static int shares_are(const uint8_t *shares, uint32_t demand) {
+/* Belief and plausibility at a demand, from a list. */
+static int shares_are(const uint8_t *shares, uint32_t demand, const struct drive_interval *list, size_t intervals) {
     uint64_t belief = 0, plausibility = 0;
-    for (size_t i = 0; i < 4; i++) {
-        if (p2_list[i].low >= demand) belief += p2_list[i].weight;
-        if (p2_list[i].high >= demand) plausibility += p2_list[i].weight;
+    for (size_t i = 0; i < intervals; i++) {
+        if (list[i].low >= demand) belief += list[i].weight;
+        if (list[i].high >= demand) plausibility += list[i].weight;
     }
     return drive_read(shares, 8) == belief && drive_read(shares + 8, 8) == plausibility;
 }
 
-/* The buffers that only drive_set has; the shares' is so long, and both stand behind a fence or before one. */
-static struct {
-    struct fence demands, shares;
-    size_t shares_length;
-    int at_end;
-} set_pages;
-
 /* drive_set in the place of a call that is asked one number, which is the length of its demands. */
 static uint32_t set_call(const uint8_t *sheet, size_t sheet_length, uint32_t demands_length, uint32_t allowance, uint8_t *list,
                          size_t list_length, uint8_t *answer, size_t answer_length) {
-    uint8_t bytes[sizeof p2_demands];
+    uint8_t bytes[sizeof some_demands];
     size_t count = demands_length / DRIVE_DEMAND_BYTES, length = set_pages.shares_length, from = 0;
-    for (size_t i = 0; i <= DRIVE_DEMANDS_MAX; i++) drive_put_demand(bytes, i, p2_demands[i]);
+    for (size_t i = 0; i <= DRIVE_DEMANDS_MAX; i++) drive_put_demand(bytes, i, some_demands[i]);
     struct lent demands = lend_bytes(set_pages.demands, bytes, sizeof bytes, demands_length, set_pages.at_end);
     struct lent shares = lend(set_pages.shares, length, set_pages.at_end);
 
@@ -286,7 +306,8 @@ static uint32_t set_call(const uint8_t *sheet, size_t sheet_length, uint32_t dem
     only_read(set_pages.demands, 0);
 
     for (size_t i = 0; got == 0 && i < count && from + DRIVE_SHARES_BYTES <= length; i++, from += DRIVE_SHARES_BYTES)
-        EXPECT(shares_are(shares.bytes + from, p2_demands[i]), "pair %zu of %zu demands", i, count);
+        EXPECT(shares_are(shares.bytes + from, some_demands[i], set_pages.row->list, set_pages.row->intervals),
+               "pair %zu of %zu demands", i, count);
     EXPECT(holds_marks(shares.bytes, from, shares.filled), "number %u touched the shares' buffer, %zu, with demands %u", got, length,
            demands_length);
     return got;
@@ -325,6 +346,142 @@ static void try_sets(const struct rows *rows, struct fence sheet, struct fence l
     }
 }
 
+/* D1, D2 and D3 with 4 of the bench table, which give the speeds 0 to 255, and three other modules. */
+static struct plan with_others(struct component x, struct component y, struct component z, const uint16_t *entry) {
+    struct plan p = three(4);
+    p.component[3] = x;
+    p.component[4] = y;
+    p.component[5] = z;
+    return make_plan(DRIVE_MODULES_MAX, p.component, entry);
+}
+
+/* Eight single speeds, 36 apart from `first` on, with weights from 1 to 8. */
+static struct component limits(unsigned first) {
+    struct component c = speeds(8, 36);
+    c.total = 36;
+    for (unsigned j = 0; j < 8; j++) {
+        c.focal[j].low = c.focal[j].high = first + j * 36;
+        c.focal[j].weight = j + 1;
+    }
+    return c;
+}
+
+/* A shared join of two speeds. */
+static unsigned shared_speed(unsigned x, unsigned y) { return x + y < DRIVE_SPEED_MAX ? x + y : DRIVE_SPEED_MAX; }
+
+/* The weight on each speed of a plan of single speeds: the sum over all choices of one for each module. */
+static void sum_choices(const struct plan *p, uint64_t *weight_at) {
+    unsigned choice[DRIVE_MODULES_MAX] = {0}, changed = 0;
+    memset(weight_at, 0, (DRIVE_SPEED_MAX + 1) * sizeof *weight_at);
+    while (changed < p->components) {
+        unsigned stack[DRIVE_MODULES_MAX], depth = 0;
+        uint64_t weight = 1;
+        for (unsigned i = 0; i + 1 < 2 * p->components; i++) {
+            const unsigned e = p->entry[i];
+            if (e < DRIVE_MODULES_MAX) {
+                weight *= p->component[e].focal[choice[e]].weight;
+                stack[depth++] = p->component[e].focal[choice[e]].low;
+            } else {
+                const unsigned y = stack[--depth], x = stack[depth - 1];
+                stack[depth - 1] = e == DRIVE_ED1_SHARED ? shared_speed(x, y) : (e == DRIVE_ED1_SERIES) == (x < y) ? x : y;
+            }
+        }
+        weight_at[stack[0]] += weight;
+        for (changed = 0; changed < p->components && ++choice[changed] == p->component[changed].count; changed++) choice[changed] = 0;
+    }
+}
+
+/* The three calls on a plan of single speeds, with list buffers of every length: with its pairs allowed, which gives this number, with
+ * one pair less, and with a sheet that is refused early. */
+static void try_long(struct plan p, uint32_t number, uint32_t pairs, struct fence sheet, struct fence list, struct fence answer) {
+    enum { DEMAND = 200, TARGET = 250 };
+    static struct rows rows;
+    static uint64_t weight_at[DRIVE_SPEED_MAX + 1];
+    struct drive_interval want[DRIVE_LIST_INTERVALS_MAX];
+    uint64_t total = 1, sum = 0, at_demand = 0, at_speed = 0;
+    uint32_t speed = 0, n = 0;
+    for (unsigned i = 0; i < p.components; i++) total *= p.component[i].total;
+    sum_choices(&p, weight_at);
+    for (uint32_t v = DRIVE_SPEED_MAX + 1; v-- > 0 && n < DRIVE_LIST_INTERVALS_MAX;) {
+        if (weight_at[v] == 0) continue;
+        want[n].low = want[n].high = v;
+        want[n++].weight = weight_at[v];
+        sum += weight_at[v];
+        if (v >= DEMAND) at_demand = sum;
+        if (at_speed == 0 && 1000 * sum >= TARGET * total) speed = v, at_speed = sum;
+    }
+    const struct ask asks[] = {
+        {drive_bounds, DEMAND, 0, DRIVE_ANSWER_BYTES, {total, at_demand, at_demand, pairs, n, 0}},
+        {drive_speed, TARGET, 0, DRIVE_SPEED_ANSWER_BYTES, {total, at_speed, at_speed, pairs, n, speed}},
+        {set_call, DRIVE_DEMANDS_MAX * DRIVE_DEMAND_BYTES, 0, DRIVE_SET_ANSWER_BYTES, {total, pairs, n, 0, 0, 0}},
+    };
+    EXPECT(n == DRIVE_LIST_INTERVALS_MAX && (sum == total) == (number == 0), "a plan with %u speeds, weights %llu of %llu", n,
+           (unsigned long long)sum, (unsigned long long)total);
+    rows.count = 0;
+    add_with_list(&rows, number, pairs, &p, want, n);
+    add_with_list(&rows, 13, pairs - 1, &p, want, n);
+    struct sheet *refused = add_with_list(&rows, 5, pairs, &p, want, n);
+    refused->bytes[refused->length - 1] |= 1;
+    set_pages.shares_length = DRIVE_DEMANDS_MAX * DRIVE_SHARES_BYTES;
+    for (unsigned i = 0; i < 3; i++)
+        for (unsigned r = 0; r < rows.count; r++)
+            for (unsigned j = 0; j < 2 * LENGTHS; j++) {
+                set_pages.at_end = j % 2 != 0;
+                try_ask(&asks[i], &rows.row[r], list_lengths[j / 2], asks[i].bytes, set_pages.at_end, sheet, list, answer);
+            }
+}
+
+/* Six modules, shared one after the other. The entries of fewer stand at the front. */
+static const uint16_t one_by_one[DRIVE_ENTRIES_MAX] = {
+    0, 1, DRIVE_ED1_SHARED, 2, DRIVE_ED1_SHARED, 3, DRIVE_ED1_SHARED, 4, DRIVE_ED1_SHARED, 5, DRIVE_ED1_SHARED,
+};
+
+/* Plans whose lists have 256 intervals. Two such lists and their join, of each kind; leaves before a long list, behind it, on both sides
+ * of it, behind one that went to a leaf's place, and one after the other; lists of which each is longer than the two that it is joined
+ * from. A list that is put over another gives a wrong answer. If no place were used again, all plans but the two of `behind` would need
+ * more than 768 records. */
+static void try_places(struct fence sheet, struct fence list, struct fence answer) {
+    enum { SERIES = DRIVE_ED1_SERIES, SHARED = DRIVE_ED1_SHARED, GROUPS = 2 * (64 + 256) + 256 * 256 };
+    static const uint16_t before[] = {3, 4, 5, 0, 1, 2, SHARED, SHARED, SERIES, SERIES, SERIES};
+    static const uint16_t behind[] = {0, 1, SHARED, 2, SHARED, 3, 4, 5, SERIES, SERIES, SERIES};
+    static const uint16_t around[] = {3, 0, 1, SHARED, 2, SHARED, 4, 5, SERIES, SERIES, SERIES};
+    static const uint16_t in_turn[] = {3, 4, 0, 1, SHARED, 2, SHARED, SERIES, 5, SERIES, SERIES};
+    static const uint16_t chain[] = {0, 1, SHARED, 2, SHARED, 3, SERIES, 4, SERIES, 5, SERIES};
+    const struct component fastest = always(DRIVE_SPEED_MAX), x = limits(3), y = limits(10), z = limits(20);
+    struct plan longer = with_others(speeds(2, 20), speeds(2, 20), speeds(2, 24), one_by_one);
+    longer.component[2] = speeds(3, 64);
+    struct plan cut = two_groups(4, SHARED); /* the second group has the speeds 3,840 to 4,095, and so has the drive */
+    for (unsigned j = 0; j < 4; j++) cut.component[5].focal[j].low = cut.component[5].focal[j].high = 3840 + 64 * j;
+    try_long(two_groups(4, SERIES), 0, GROUPS, sheet, list, answer);
+    try_long(two_groups(4, DRIVE_ED1_SPARE), 0, GROUPS, sheet, list, answer);
+    try_long(cut, 0, GROUPS, sheet, list, answer);
+    try_long(two_groups(4, SHARED), 14, GROUPS, sheet, list, answer);
+    try_long(with_others(fastest, fastest, fastest, before), 0, 32 + 256 + 3 * 256, sheet, list, answer);
+    try_long(with_others(fastest, fastest, fastest, behind), 0, 64 + 256 + 1 + 1 + 256, sheet, list, answer);
+    try_long(with_others(x, y, z, before), 0, 32 + 256 + 3 * 8 * 256, sheet, list, answer);
+    try_long(with_others(x, y, z, behind), 0, 64 + 256 + 8 * 8 + 8 * 15 + 256 * 22, sheet, list, answer);
+    try_long(with_others(x, y, z, around), 0, 64 + 256 + 8 * 8 + 256 * 15 + 8 * 256, sheet, list, answer);
+    try_long(with_others(x, y, z, in_turn), 0, 64 + 256 + 3 * 8 * 256, sheet, list, answer);
+    try_long(with_others(x, y, z, chain), 0, 64 + 256 + 3 * 8 * 256, sheet, list, answer);
+    try_long(longer, 0, 64 + 64 * 3 + 192 * 2 + 212 * 2 + 232 * 2, sheet, list, answer);
+}
+
+/* The list buffer needs as many bytes for a sheet of one module as for one of six. */
+static void test_module_counts(void) {
+    static uint8_t list[DRIVE_LIST_BYTES], answer[DRIVE_ANSWER_BYTES];
+    struct component c[DRIVE_MODULES_MAX];
+    for (unsigned n = 1; n <= DRIVE_MODULES_MAX; n++) {
+        c[n - 1] = always(n);
+        const struct plan p = make_plan(n, c, one_by_one);
+        const struct sheet s = make_sheet(&p);
+        for (uint32_t less = 0; less < 2; less++) {
+            uint32_t got = drive_bounds(s.bytes, s.length, n, DRIVE_PAIRS_MAX, list, sizeof list - less, answer, sizeof answer);
+            EXPECT(got == 12 * less, "n = %u: number %u with a list buffer of %zu bytes", n, got, sizeof list - less);
+        }
+    }
+    finish("list buffers of 9,215 and 9,216 bytes, one to six modules");
+}
+
 /* Lengths of more than 16 and of more than 32 bits, which would have another number if they were cut. All bytes are zero, and only
  * the first page can be written. */
 static void test_far_lengths(void) {
@@ -346,7 +503,7 @@ static void test_far_lengths(void) {
     drive_put_demand(demand, 0, 3);
     uint32_t got = drive_set(s.bytes, s.length, demand, sizeof demand, 4, list, sizeof list, bytes, (size_t)1 << 32, answer,
                              sizeof answer);
-    EXPECT(got == 0 && shares_are(bytes, 3), "number %u with 4 GiB for the shares", got);
+    EXPECT(got == 0 && shares_are(bytes, 3, p2_list, 4), "number %u with 4 GiB for the shares", got);
     munmap(bytes, greatest);
     finish("drive_set: lengths of more than 16 and of more than 32 bits");
 }
@@ -361,6 +518,8 @@ static void test_sheets(void) {
     finish("drive_speed: numbers 0 to 14 and 16, buffers of every length, nothing else touched");
     try_sets(&rows, sheet, list, answer);
     finish("drive_set: numbers 0 to 14, 17 and 18, buffers of every length, nothing else touched");
+    try_places(sheet, list, answer);
+    finish("the places of long lists, list buffers of every length, nothing else touched");
     for (unsigned r = 0; r < rows.count; r++)
         for (unsigned i = 0; i < LENGTHS; i++)
             for (int at_end = 0; at_end < 2; at_end++) try_read(&rows.row[r], plan_lengths[i], at_end, sheet, plan);
@@ -869,12 +1028,6 @@ static void test_sums_from_front(void) {
     finish("the order: beliefs and speeds from the front of the list");
 }
 
-/* A module that always runs at one speed. */
-static struct component always(unsigned speed) {
-    const struct component c = {1, 1, {{speed, speed, 1}}};
-    return c;
-}
-
 /* Every two speeds that add to 4,094, 4,095 or 4,096, and some others: the sum or 4,095, whichever is smaller. */
 static void test_ceiling_sums(void) {
     static const unsigned others[][3] = {{4095, 2, 4095}, {4095, 4095, 4095}, {3000, 3000, 4095}, {1500, 1500, 3000}, {0, 0, 0}};
@@ -1086,6 +1239,7 @@ static void test_sets(void) {
         uint32_t got = drive_bounds(s.bytes, s.length, 0, DRIVE_PAIRS_MAX, list, sizeof list, answer, sizeof answer);
         unsigned intervals = (unsigned)drive_read_answer(answer).intervals;
         EXPECT(got == 0 && intervals > 0, "sheet %zu: number %u", i, got);
+        if (intervals == 0) continue;
         greatest = greatest_high(list, intervals);
         for (size_t count = 1; count <= DRIVE_DEMANDS_MAX; count++) {
             for (size_t j = 0; j < count; j++) { /* from one above the greatest speed down to 0, or the other way round */
@@ -1136,6 +1290,7 @@ static void test_messages(void) {
     EXPECT(strcmp(drive_message(DRIVE_ACCEPTED), "accepted") == 0, "the words for 0");
     EXPECT(strcmp(drive_message(DRIVE_E_EDITION), "the sheet's edition is not 1") == 0, "the words for 2");
     EXPECT(strcmp(drive_message(DRIVE_E_WEIGHTS), "a module's weights add to more than its total") == 0, "the words for 8");
+    EXPECT(DRIVE_LIST_BYTES == 9216 && strstr(drive_message(DRIVE_E_BUFFER), ", list 9,216, ") != NULL, "the words for 12");
     EXPECT(strcmp(drive_message(DRIVE_E_TARGET), "the target is not 1 to 1,000 thousandths") == 0, "the words for 16");
     EXPECT(strcmp(drive_message(17), "the number of demands is not 1 to 16, or their bytes are not 4 for each") == 0,
            "the words for 17");
@@ -1146,6 +1301,7 @@ static void test_messages(void) {
 
 int main(void) {
     test_sheets();
+    test_module_counts();
     test_far_lengths();
     test_writer();
     test_round_trips();

@@ -10,7 +10,8 @@ import sys
 from collections import Counter
 from math import prod
 
-LIST_BYTES, ANSWER_BYTES, SET_BYTES, SPEED_BYTES, PAIRS_MAX = 16384, 40, 24, 48, 67156
+LIST_BYTES, ANSWER_BYTES, SET_BYTES, SPEED_BYTES, PAIRS_MAX = 9216, 40, 24, 48, 67156
+OLD_LIST_BYTES = 16384  # what versions before 5.0.0 needed
 PLAN_BYTES, LENGTH_BYTES, SHEET_BYTES = 336, 8, 224
 SERIES, SHARED, SPARE = 8, 9, 10
 FASTEST = 4095
@@ -237,33 +238,33 @@ def set_of(outcomes, demands, room):
     return 0, [total, pairs, len(records)], [share for demand in demands for share in bounds_of(outcomes, demand)[1][1:3]]
 
 
-def list_bytes(number, records):
+def list_bytes(number, records, length=LIST_BYTES):
     """The list buffer after a call."""
     parts = [low.to_bytes(2, "big") + high.to_bytes(2, "big") + weight.to_bytes(8, "big") for low, high, weight in records]
-    return b"".join(parts).ljust(LIST_BYTES, b"\0") if number in (0, 13, 14) else b"\xee" * LIST_BYTES
+    return (b"".join(parts).ljust(LIST_BYTES, b"\0") if number in (0, 13, 14) else b"").ljust(length, b"\xee")
 
 
 def answer_bytes(values):
     return b"".join(value.to_bytes(8, "big") for value in values)
 
 
-def compare_set(sheet, demands, allowance, outcomes, room):
+def compare_set(sheet, demands, allowance, outcomes, room, list_length=LIST_BYTES):
     """One call of drive_set with a list and an answer that are long enough."""
     number, answers, shares = set_of(outcomes, demands, room)
-    wanted = list_bytes(number, outcomes[3]), answer_bytes(shares).ljust(room, b"\xee"), answer_bytes(answers)
+    wanted = list_bytes(number, outcomes[3], list_length), answer_bytes(shares).ljust(room, b"\xee"), answer_bytes(answers)
     asked = b"".join(d if isinstance(d, bytes) else d.to_bytes(4, "big") for d in demands)
-    got = call_set(sheet, asked, allowance, LIST_BYTES, room, SET_BYTES)
+    got = call_set(sheet, asked, allowance, list_length, room, SET_BYTES)
     name = f"drive_set asked {demands}, allowance {allowance}, room {room}"
     assert got[0] == number, f"{name}: number {got[0]}, not {number}, on {sheet.hex()}"
     assert got[1:] == wanted, f"{name}: other bytes on {sheet.hex()}"
     return number
 
 
-def compare(function, sheet, asked, allowance, outcomes, wanted):
+def compare(function, sheet, asked, allowance, outcomes, wanted, list_length=LIST_BYTES):
     """One call with buffers that are long enough; `wanted` is its number and its answers."""
     number, answers = wanted
-    store, answer = list_bytes(number, outcomes[3]), answer_bytes(answers)
-    got = call(function, sheet, asked, allowance, LIST_BYTES, len(answer))
+    store, answer = list_bytes(number, outcomes[3], list_length), answer_bytes(answers)
+    got = call(function, sheet, asked, allowance, list_length, len(answer))
     name = f"{function.__name__} asked {asked}, allowance {allowance}"
     assert got[0] == number, f"{name}: number {got[0]}, not {number}, on {sheet.hex()}"
     assert got[1:] == (store, answer), f"{name}: other bytes on {sheet.hex()}"
@@ -294,6 +295,32 @@ def round_trip(sheet):
         assert write(plan) == (0, sheet + rest, len(sheet).to_bytes(8, "big") + behind), f"the writer on {plan.hex()}"
         refused = (15, b"\xee" * (len(sheet) - 1) + behind, bytes(8) + behind)
         assert write(plan, sheet_length=len(sheet) - 1) == refused, "a short sheet buffer"
+
+
+def long_sheets():
+    """Two lists of 256 and their join; leaves before a list of 256, behind it and one after the other; lists of which each is longer
+    than the two that it is joined from. With the number and the pair count."""
+    def singles(*ranges):
+        return [(len(speeds), [(speed, speed, 1) for speed in speeds]) for speeds in ranges]
+
+    group = singles(range(8), range(0, 64, 8), range(0, 256, 64))
+    growing = singles(range(8), range(0, 64, 8), range(0, 192, 64), (0, 20), (0, 20), (0, 24))
+    limits = [(9, [(100, 100, 2), (300, 300, 7)]), (5, [(60, 60, 1), (255, 255, 4)]), (3, [(80, 80, 1), (700, 700, 2)])]
+    parts = [(2, [(256, 256, 2)]), (3, [(512, 512, 3)]), (5, [(1024, 1024, 5)])]
+    groups = [0, 1, SHARED, 2, SHARED, 3, 4, SHARED, 5, SHARED]
+    before, behind = [3, 4, 5, 0, 1, 2, SHARED, SHARED], [0, 1, SHARED, 2, SHARED, 3, 4, 5]
+
+    def in_turn(join):
+        return [0, 1, SHARED, 2, SHARED, 3, join, 4, join, 5, join]
+
+    yield "two groups in series", make_sheet(group + group, groups + [SERIES]), 0, 66176
+    yield "two groups, shared", make_sheet(group + group, groups + [SHARED]), 14, 66176
+    yield "limits before", make_sheet(group + limits, before + 3 * [SERIES]), 0, 1824
+    yield "limits behind", make_sheet(group + limits, behind + 3 * [SERIES]), 0, 1354
+    yield "limits in turn", make_sheet(group + limits, in_turn(SERIES)), 0, 1856
+    yield "parts before", make_sheet(group + parts, before + 3 * [SHARED]), 0, 1056
+    yield "parts behind", make_sheet(group + parts, behind + 3 * [SHARED]), 0, 578
+    yield "longer lists in turn", make_sheet(growing, in_turn(SHARED)), 0, 1528
 
 
 def random_sheet(r):
@@ -403,6 +430,16 @@ def main():
         assert speed_of(outcomes, target)[1][5] == 4095
         compare(drive_speed, pair, target, 1, outcomes, speed_of(outcomes, target))
     print("ok Python: 4,095 with 1 in a shared join gives 4,095")
+
+    for name, sheet, number, pairs in long_sheets():
+        everything = outcomes_of(sheet, pairs)
+        assert everything[0] == number and everything[2] == (pairs if number == 0 else 0), f"{name}: {everything[:3]}"
+        for allowance, outcomes in (pairs, everything), (pairs - 1, outcomes_of(sheet, pairs - 1)):
+            for list_length in LIST_BYTES, LIST_BYTES + 1, OLD_LIST_BYTES:
+                compare(drive_bounds, sheet, 200, allowance, outcomes, bounds_of(outcomes, 200), list_length)
+                compare(drive_speed, sheet, 250, allowance, outcomes, speed_of(outcomes, 250), list_length)
+                compare_set(sheet, [*range(0, 272, 17)], allowance, outcomes, 256, list_length)
+    print("ok Python: the places of long lists, longer list buffers")
 
     r, met, rests, cut, sheets = random.Random(20), Counter(), Counter(), Counter(), 8000
     for _ in range(sheets):

@@ -19,7 +19,9 @@ extern "C" {
     fn drive_read_sheet(sheet: *const u8, sheet_length: usize, plan: *mut u8, plan_length: usize) -> u32;
 }
 
-const LIST_BYTES: usize = 16384;
+const LIST_BYTES: usize = 9216;
+/// What versions before 5.0.0 needed.
+const OLD_LIST_BYTES: usize = 16384;
 const ANSWER_BYTES: usize = 40;
 const SET_ANSWER_BYTES: usize = 24;
 const SPEED_ANSWER_BYTES: usize = 48;
@@ -143,6 +145,18 @@ fn main() {
     assert_eq!(call(&W, 7, 6, &mut list[..LIST_BYTES - 1], &mut answer), 12);
     assert!(list.iter().all(|byte| *byte == 0xEE) && answers(&answer[..ANSWER_BYTES]) == [0; 5]);
     println!("ok Rust: refusals and short slices");
+
+    // A longer list buffer: the same front, and bytes behind it stay.
+    for (allowance, number) in [(6, 0), (5, 13)] {
+        let mut exact = vec![0xEE; LIST_BYTES];
+        assert_eq!(call(&W, 7, allowance, &mut exact, &mut answer), number);
+        for length in [LIST_BYTES + 1, OLD_LIST_BYTES] {
+            let mut longer = vec![0xEE; length];
+            assert_eq!(call(&W, 7, allowance, &mut longer, &mut answer), number);
+            assert!(longer[..LIST_BYTES] == exact && longer[LIST_BYTES..].iter().all(|byte| *byte == 0xEE));
+        }
+    }
+    println!("ok Rust: longer list buffers");
 
     let mut bounds_list = vec![0xEE; LIST_BYTES + 3];
     let mut answer = vec![0xEE; SPEED_ANSWER_BYTES + 3];

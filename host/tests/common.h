@@ -21,6 +21,9 @@ typedef uint32_t set_fn(const uint8_t *, size_t, const uint8_t *, size_t, uint32
 
 enum { SHEET_ROOM = 300 };
 
+/* The list buffer that versions before 5.0.0 needed: it still serves, and what stands behind DRIVE_LIST_BYTES stays. */
+enum { OLD_LIST_BYTES = 16384 };
+
 /* Twice 64 bits, for products that must be exact. */
 __extension__ typedef unsigned __int128 wide;
 

@@ -9,6 +9,7 @@ enum {
     SHEETS = 30000,
     PROGRAM_EVERY = 100,
     LIST_ROOM = DRIVE_LIST_BYTES + 16,
+    TEXT_ROOM = 16384, /* what the program writes: a line, and one for each of 256 intervals */
     ANSWER_ROOM = DRIVE_SPEED_ANSWER_BYTES + 16,
     DEMANDS_ROOM = (DRIVE_DEMANDS_MAX + 1) * DRIVE_DEMAND_BYTES,
     SHARES_ROOM = (DRIVE_DEMANDS_MAX + 1) * DRIVE_SHARES_BYTES
@@ -134,7 +135,7 @@ struct side {
 };
 
 static struct side make_side(bounds_fn *call, set_fn *set) {
-    struct side side = {call, set, make_fence(LIST_ROOM), make_fence(SHARES_ROOM), make_fence(ANSWER_ROOM), NULL, NULL, NULL, 0};
+    struct side side = {call, set, make_fence(OLD_LIST_BYTES), make_fence(SHARES_ROOM), make_fence(ANSWER_ROOM), NULL, NULL, NULL, 0};
     return side;
 }
 
@@ -173,7 +174,7 @@ static size_t random_length(size_t needed, size_t room) {
 static void run_both(struct both *b, int exact, const uint8_t *sheet, size_t length, struct question q, uint32_t allowance) {
     struct lengths n = {DRIVE_LIST_BYTES, q.demands_length / DRIVE_DEMAND_BYTES * DRIVE_SHARES_BYTES, b->answer_bytes};
     if (!exact) {
-        n.list = random_length(n.list, LIST_ROOM);
+        n.list = random_below(4) == 0 ? (size_t)OLD_LIST_BYTES : random_length(n.list, LIST_ROOM);
         n.shares = random_length(n.shares, SHARES_ROOM);
         n.answer = random_length(n.answer, ANSWER_ROOM);
     }
@@ -328,7 +329,7 @@ static void program_text(const struct side *side, char *out, size_t room) {
 
 static void compare_program(const char *program, const char *file, const struct side *side, const uint8_t *sheet, size_t length,
                             uint32_t demand, uint32_t allowance) {
-    static char got[16384], want[16384];
+    static char got[TEXT_ROOM], want[TEXT_ROOM];
     FILE *f = fopen(file, "wb");
     if (f == NULL) {
         perror(file);

@@ -1,5 +1,5 @@
 -- The sheets of the rows and their lists, and what a call on a sheet answers. Assumes nothing.
-use Rattle.std.specs.Prelude.{◌≡◌, ℕ, ◌-◌, ◌*◌, Ok, Err, List, [], ◌∷◌, ◌++◌, map, length, take, drop, replicate, slice_set}
+use Rattle.std.specs.Prelude.{◌≡◌, ℕ, ◌+◌, ◌-◌, ◌*◌, Ok, Err, List, [], ◌∷◌, ◌++◌, map, length, take, drop, replicate, slice_set}
 use Rattle.std.specs.List.{range_with_len}
 use Rattle.theory.specs.declared.Component.{Component}
 use Rattle.theory.specs.declared.Focal.{Focal}
@@ -78,15 +78,20 @@ D3 count = single_speeds count (take count (times 64))
 abbrev pub join_code : Join → ℕ
 join_code op = code_of (join op)
 
--- The plan of components, each joined to those before it: the structure 0, 0 1 join, 0 1 join 2 join and so on.
-unfoldable pub chain : List Component → Join → Plan
-chain cs op =
-    let code : ℕ = join_code op in
-    record {
-      components = cs ++ drop (length cs) zero_plan.components;
-      count = length cs;
-      entries = 0 ∷ 1 ∷ code ∷ 2 ∷ code ∷ 3 ∷ code ∷ 4 ∷ code ∷ 5 ∷ code ∷ [];
-    }
+-- The plan of components with a structure.
+unfoldable pub plan_of : List Component → List ℕ → Plan
+plan_of cs entries = record { components = cs ++ drop (length cs) zero_plan.components; count = length cs; entries = entries }
+
+-- Each component joined to those before it: 0, 0 1 join, 0 1 join 2 join and so on.
+abbrev pub chained : ℕ → List ℕ
+chained code = 0 ∷ 1 ∷ code ∷ 2 ∷ code ∷ 3 ∷ code ∷ 4 ∷ code ∷ 5 ∷ code ∷ []
+
+abbrev pub chain : List Component → Join → Plan
+chain cs op = plan_of cs (chained (join_code op))
+
+-- D1, D2 and D3 with 4, twice.
+abbrev pub two_groups : List Component
+two_groups = D1 ∷ D2 ∷ D3 4 ∷ D1 ∷ D2 ∷ D3 4 ∷ []
 
 -- The sheet of a plan.
 unfoldable pub sheet_of : Plan → List ℕ
@@ -96,13 +101,13 @@ sheet_of p = take (written_of p LONGEST).length (bytes_after p (replicate LONGES
 abbrev pub bytes_of : Sheet → List ℕ
 bytes_of s = take s.length s.bytes
 
--- Every speed from 255 down, each with weight 1.
-unfoldable pub every_speed : List Focal
-every_speed = map (λ i. focal (most_intervals - 1 - i) (most_intervals - 1 - i) 1) (range_with_len 0 most_intervals)
+-- Every speed from 255 down; the weights begin at 1 and rise by `step`.
+unfoldable pub every_speed : ℕ → List Focal
+every_speed step = map (λ i. focal (most_intervals - 1 - i) (most_intervals - 1 - i) (step * i + 1)) (range_with_len 0 most_intervals)
 
--- The same with 4,095 and 4,094 in places 62 and 63; 127 is the weight at 4,095.
+-- Every speed from 255 down with weight 1, but 4,095 with weight 127 and 4,094 in places 62 and 63.
 unfoldable pub speeds_to_ceiling : List Focal
-speeds_to_ceiling = slice_set (slice_set every_speed 62 (focal 4095 4095 127)) 63 (focal 4094 4094 1)
+speeds_to_ceiling = slice_set (slice_set (every_speed 0) 62 (focal 4095 4095 127)) 63 (focal 4094 4094 1)
 
 -- A call asks this of a sheet, with this allowance and so many bytes of store and for shares.
 pub record Asks (call : Call) (sheet : List ℕ) (asked : Asked) (allowance store shares : ℕ) : Type 0 where

@@ -1,7 +1,7 @@
-// Runs every row of the bench table, and rows of its own for time that nobody accounted for, for the ceiling of shared joins, for a speed
-// and for a set of demands: plans are written as sheets, and the answer of each call and its list, record by record, are compared with
-// the table's. Prints a line for each row, and how many rows disagree. What is printed is open in the contracts of the functions that
-// print, and so is the count of rows that disagree; every other function says what it answers.
+// Runs every row of the bench table, and rows of its own for places of joined lists that are used again, for time that nobody accounted for,
+// for the ceiling of shared joins, for a speed and for a set of demands: plans are written as sheets, and the answer of each call and its
+// list, record by record, are compared with the table's. Prints a line for each row, and how many rows disagree. What is printed is open in
+// the contracts of the functions that print, and so is the count of rows that disagree; every other function says what it answers.
 // Where a number is cast there is no `From`, a `TryFrom` would never fail, and the check proves that nothing is lost.
 // Where a slice has at most so many elements, that is a clause: each row gives a literal or a part of a constant, whose length the check sees.
 #![tactic(auto)]
@@ -10,7 +10,7 @@ ghost use Rattle.std.specs.Prelude.{◌≡◌, ◌↔◌, IsTrue, ◌<◌, ◌�
 ghost use Rattle.theory.specs.Focal.{focal};
 ghost use Rattle.theory.specs.Limits.{most_components, most_held, store_bytes};
 ghost use Rattle.records.specs.Records.{records_of};
-ghost use Rattle.bench_table.specs.Rows.{component_of, single_speeds, component_a, component_b, W0, W1, D1, D2, D3, join_code, chain, sheet_of};
+ghost use Rattle.bench_table.specs.Rows.{component_of, single_speeds, component_a, component_b, W0, W1, D1, D2, D3, join_code, chain, two_groups, plan_of, sheet_of};
 ghost use Rattle.bench_table.specs.Rows.{bytes_of, every_speed, speeds_to_ceiling, Asks, numbers_of, Answered, refused_as, intervals_of, accepted_of};
 
 mod call;
@@ -22,7 +22,10 @@ use queries::Shares;
 use records::Records;
 use std::io::{Print, Stdout};
 use std::{array, fmt, io};
-use theory::{Component, Focal, Join, MOST_HELD, MOST_INTERVALS, Refusal};
+use theory::{
+    Component, Focal, Join, MOST_ENTRIES, MOST_HELD, MOST_INTERVALS, Refusal, SERIES_CODE,
+    SHARED_CODE,
+};
 
 // The bytes of the longest sheet, and of the store.
 const LONGEST: usize = 224;
@@ -53,6 +56,11 @@ const NINE: [Focal; 9] = list![
 const NINES: [Focal; 16] = list![
     [7, 7] 1, [6, 6] 3, [5, 5] 5, [4, 4] 7, [3, 3] 9, [2, 2] 11, [1, 1] 13, [0, 4095] 1,
     [0, 7] 2, [0, 6] 2, [0, 5] 2, [0, 4] 2, [0, 3] 2, [0, 2] 2, [0, 1] 2, [0, 0] 17
+];
+
+// The slowest of four speeds: of D1, of D2, of D3 with 4, and of three such modules shared.
+const EIGHT: [Focal; 8] = list![
+    [7, 7] 5229, [6, 6] 5271, [5, 5] 5313, [4, 4] 5355, [3, 3] 5397, [2, 2] 5439, [1, 1] 5481, [0, 0] 28051
 ];
 
 // The speeds of D1, D2 and D3.
@@ -116,24 +124,32 @@ fn code_of(join: Join) -> u16
     }
 }
 
-// The sheet of components, each joined to those before it: the structure 0, 0 1 join, 0 1 join 2 join and so on.
-fn sheet(components: &[Component], join: Join) -> Sheet
+// The sheet of components with a structure.
+fn sheet_with(components: &[Component], entries: [u16; MOST_ENTRIES]) -> Sheet
     requires { length components.now ≤ most_components }
-    ensures { bytes_of result ≡ sheet_of (chain components.now join) }
+    ensures { bytes_of result ≡ sheet_of (plan_of components.now entries) }
 {
     let n = components.len();
     let mut places = Plan::default().components;
     places[..n].copy_from_slice(components);
-    let code = code_of(join);
     let p = Plan {
         components: places,
         count: n,
-        entries: [0, 1, code, 2, code, 3, code, 4, code, 5, code],
+        entries,
     };
     let mut bytes = [0u8; LONGEST];
     // A refused plan has no bytes, as `sheet_of` says: a `Result` would only be unwrapped by each row.
     let length = writing::write_sheet(p, &mut bytes).unwrap_or(0);
     Sheet { bytes, length }
+}
+
+// The sheet of components, each joined to those before it: the structure 0, 0 1 join, 0 1 join 2 join and so on.
+fn sheet(components: &[Component], join: Join) -> Sheet
+    requires { length components.now ≤ most_components }
+    ensures { bytes_of result ≡ sheet_of (chain components.now join) }
+{
+    let code = code_of(join);
+    sheet_with(components, [0, 1, code, 2, code, 3, code, 4, code, 5, code])
 }
 
 // The sheet of one component.
@@ -187,6 +203,16 @@ fn d_with(count: u16) -> Sheet
     d_and(&D3_SPEEDS[..usize::from(count)])
 }
 
+// D1, D2 and D3 with 4, twice, with a structure.
+fn two_groups(entries: [u16; MOST_ENTRIES]) -> Sheet
+    ensures { bytes_of result ≡ sheet_of (plan_of two_groups entries) }
+{
+    let d1 = single_speeds(8, &D1_SPEEDS);
+    let d2 = single_speeds(8, &D2_SPEEDS);
+    let d3 = single_speeds(4, &D3_SPEEDS[..4]);
+    sheet_with(&[d1, d2, d3, d1, d2, d3], entries)
+}
+
 // A speed in a list, with weight 1.
 fn single(speed: u16) -> Focal
     ensures { result ≡ focal speed speed 1 }
@@ -198,18 +224,22 @@ fn single(speed: u16) -> Focal
     }
 }
 
-// Every speed from 255 down to 0, with weight 1: the list of D1, D2 and D3 with 4.
-fn every_speed() -> [Focal; MOST_INTERVALS]
-    ensures { result ≡ every_speed }
+// Every speed from 255 down to 0, with weights that begin at 1 and rise by `step`: by 0 it is the list of D1, D2 and D3 with 4, by 2 that of
+// two such lists in series.
+fn every_speed(step: u16) -> [Focal; MOST_INTERVALS]
+    ensures { result ≡ every_speed step }
 {
-    array::from_fn(|i| single((MOST_INTERVALS - 1 - i) as u16))
+    array::from_fn(|i| Focal {
+        weight: u64::from(step) * i as u64 + 1,
+        ..single((MOST_INTERVALS - 1 - i) as u16)
+    })
 }
 
 // From record 62 on: the speed 4,095 with weight 127, then 4,094, and the 192 from 191 down.
 fn speeds_to_ceiling() -> [Focal; MOST_INTERVALS]
     ensures { result ≡ speeds_to_ceiling }
 {
-    let mut list = every_speed();
+    let mut list = every_speed(0);
     list[62] = Focal {
         weight: 127,
         ..single(4095)
@@ -537,14 +567,69 @@ fn rows_of_limits(t: &mut Table) -> io::Result<()> {
     let p2 = a_and_b(Join::Shared);
     let other = a_and_b_as(0x00, 0x80);
     rows! { t;
-        "D1, D2, D3 with 4, demand 0": d_with(4).at(0).gives(ok(accepted(256, 256, 256, 320, 256)), &every_speed()),
+        "D1, D2, D3 with 4, demand 0": d_with(4).at(0).gives(ok(accepted(256, 256, 256, 320, 256)), &every_speed(0)),
         "D1, D2, D3 with 5, allowance 384": five.at(0).allow(384).refused(Refusal::ListLength),
         "D1, D2, D3 with 5, allowance 383": five.at(0).allow(383).refused(Refusal::Allowance),
         "T 1,000, demand 1": any.at(1).gives(ok(accepted(1000, 0, 1000, 0, 1)), &list![[0, 4095] 1000]),
         "T 1,001, demand 1": above.at(1).refused(Refusal::Total),
-        "buffer 16,384 bytes, demand 3": p2.at(3).gives(ok(accepted(12, 9, 10, 4, 4)), &P2),
-        "buffer 16,383 bytes, demand 3": p2.at(3).store(ROOM - 1).refused(Refusal::Store),
+        "buffer 9,216 bytes, demand 3": p2.at(3).store(9216).gives(ok(accepted(12, 9, 10, 4, 4)), &P2),
+        "buffer 9,215 bytes, demand 3": p2.at(3).store(9215).refused(Refusal::Store),
         "structure 0 0 8": other.at(0).refused(Refusal::Naming),
+    }
+    Ok(())
+}
+
+// Places of joined lists that are used again: two lists of 256 joined to one of 256, six lists of components one behind the other, and lists
+// of components behind one of 256.
+fn rows_of_places(t: &mut Table) -> io::Result<()> {
+    let two = two_groups([
+        0,
+        1,
+        SHARED_CODE,
+        2,
+        SHARED_CODE,
+        3,
+        4,
+        SHARED_CODE,
+        5,
+        SHARED_CODE,
+        SERIES_CODE,
+    ]);
+    let two_list = every_speed(2);
+    let six = two_groups([
+        0,
+        1,
+        2,
+        3,
+        4,
+        5,
+        SHARED_CODE,
+        SHARED_CODE,
+        SERIES_CODE,
+        SERIES_CODE,
+        SERIES_CODE,
+    ]);
+    let behind = two_groups([
+        0,
+        1,
+        SHARED_CODE,
+        2,
+        SHARED_CODE,
+        3,
+        4,
+        5,
+        SERIES_CODE,
+        SERIES_CODE,
+        SERIES_CODE,
+    ]);
+    rows! { t;
+        "D1, D2, D3 with 4, twice in series, demand 128, allowance 66,176":
+            two.at(128).allow(66176).gives(ok(accepted(65536, 16384, 16384, 66176, 256)), &two_list),
+        "same, allowance 66,175": two.at(128).allow(66175).refused(Refusal::Allowance),
+        "six components, then the joins, demand 7, allowance 3,312":
+            six.at(7).allow(3312).gives(ok(accepted(65536, 5229, 5229, 3312, 8)), &EIGHT),
+        "three components behind a list of 256, demand 7, allowance 2,464":
+            behind.at(7).allow(2464).gives(ok(accepted(65536, 5229, 5229, 2464, 8)), &EIGHT),
     }
     Ok(())
 }
@@ -621,8 +706,8 @@ fn rows_of_refused_speeds(t: &mut Table) -> io::Result<()> {
     let p2 = a_and_b(Join::Shared);
     let five = d_with(5);
     rows! { t;
-        "structure 8 0 1, target 0, buffer 16,383 bytes": other.speed(0).store(ROOM - 1).refused(Refusal::Joins),
-        "target 0, buffer 16,383 bytes": p2.speed(0).store(ROOM - 1).refused(Refusal::Store),
+        "structure 8 0 1, target 0, buffer 9,215 bytes": other.speed(0).store(ROOM - 1).refused(Refusal::Joins),
+        "target 0, buffer 9,215 bytes": p2.speed(0).store(ROOM - 1).refused(Refusal::Store),
         "target 0": p2.speed(0).refused(Refusal::Target),
         "target 1,001, allowance 3": p2.speed(1001).allow(3).refused(Refusal::Target),
         "target 1,000, allowance 3": p2.speed(1000).allow(3).refused(Refusal::Allowance),
@@ -653,8 +738,8 @@ fn rows_of_refused_sets(t: &mut Table) -> io::Result<()> {
     let p2 = a_and_b(Join::Shared);
     let five = d_with(5);
     rows! { t;
-        "structure 8 0 1, no demand, buffer 16,383 bytes": other.set(&[]).store(ROOM - 1).refused(Refusal::Joins),
-        "no demand, buffer 16,383 bytes": p2.set(&[]).store(ROOM - 1).refused(Refusal::Store),
+        "structure 8 0 1, no demand, buffer 9,215 bytes": other.set(&[]).store(ROOM - 1).refused(Refusal::Joins),
+        "no demand, buffer 9,215 bytes": p2.set(&[]).store(ROOM - 1).refused(Refusal::Store),
         "no demand": p2.set(&[]).refused(Refusal::DemandCount),
         "17 demands, 72 bytes for shares, allowance 3": p2.set(&[3; 17]).allow(3).refused(Refusal::DemandCount),
         "2 demands, 31 bytes for shares, allowance 3": p2.set(&[3, 7]).allow(3).share(31).refused(Refusal::SharesRoom),
@@ -674,6 +759,7 @@ fn main(rt: HostRuntime) -> io::Result<()> {
     rows_of_a_and_b(&mut table)?;
     rows_of_w_and_refusals(&mut table)?;
     rows_of_limits(&mut table)?;
+    rows_of_places(&mut table)?;
     rows_of_rests(&mut table)?;
     rows_of_ceiling(&mut table)?;
     rows_of_speeds(&mut table)?;

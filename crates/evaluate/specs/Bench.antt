@@ -1,5 +1,5 @@
--- The rows P1 to P10 of the bench table, and the case that document 02 adds with request six, from the sheets' bytes. They are proved in
--- proofs/Bench.antt. Assumes nothing.
+-- The rows P1 to P10 of the bench table, the cases that document 02 adds with requests six and seven, from the sheets' bytes. They are proved
+-- in proofs/Bench.antt. Assumes nothing.
 use Rattle.std.specs.Prelude.{ℕ, ◌≡◌, List, [], ◌∷◌}
 use Rattle.theory.specs.Focal.{focal}
 use Rattle.evaluate.specs.Answer.{Answer, sheet_list, refusal, answer}
@@ -64,3 +64,5 @@ pub record Bench : Type 0 where
   pub top_and_one_list : sheet_list top_and_one ≡ focal 4095 4095 1 ∷ []
   pub top_and_one_asked : asked top_and_one 4095 ≡ accepted 1 1 1 1 1
   pub above_top : asked top_and_one 4096 ≡ accepted 1 0 0 1 1
+  pub store_9216 : answer ABshared 3 1000 9216 ≡ accepted 12 9 10 4 4
+  pub store_9215 : answer ABshared 3 1000 9215 ≡ refusal 12

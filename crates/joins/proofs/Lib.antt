@@ -3,4 +3,3 @@ pub mod Holding
 pub mod Filling
 pub mod Answer
 pub mod Listed
-pub mod Rest

@@ -50,20 +50,9 @@ join_in op s left right = join_lists op (list_of_span s left) (list_of_span s ri
 abbrev pub joined_store : Join → List ℕ → Span → Span → ℕ → List ℕ
 joined_store op s left right free = holding_from s free (fill [] (pairs_in op s left right)).list
 
--- A list that a join can take.
-pub record Operand (s : List ℕ) (span : Span) : Type 0 where
-  pub count : span.count ≤ most_intervals
-  pub inside : span.start + record_bytes * span.count ≤ length s
-
 -- Two lists of a store that can be joined into its rest from byte `free` on.
 pub record Joinable (op : Join) (s : List ℕ) (left right : Span) (free : ℕ) : Type 0 where
-  pub first : Operand s left
-  pub second : Operand s right
+  pub first : left.start + record_bytes * left.count ≤ free
+  pub second : right.start + record_bytes * right.count ≤ free
   pub room : free + list_bytes ≤ length s
   pub fits : weights (pairs_in op s left right) < 2 ^ 64
-
--- So many bytes hold each of two lists.
-pub record Hold (bytes : ℕ) (left right : Span) : Type 0 where
-  pub most : bytes ≤ list_bytes
-  pub left_fits : record_bytes * left.count ≤ bytes
-  pub right_fits : record_bytes * right.count ≤ bytes

@@ -12,15 +12,10 @@ ghost use Rattle.records.specs.Records.{records_of};
 ghost use Rattle.records.specs.Store.{holding, holding_from};
 ghost use Rattle.joins.specs.Filling.{fill, length_of_filled};
 ghost use Rattle.joins.specs.Joins.{RestFits, joined_as, join_length, number_of_join, length_of_join};
-ghost use Rattle.joins.specs.Joins.{join_in, joined_store, Joinable, Hold};
+ghost use Rattle.joins.specs.Joins.{join_in, joined_store, Joinable};
 
 use records::{Listing, Records, Span};
-use theory::{Focal, HeldComponent, Join, LIST_BYTES, RECORD_BYTES, Refusal, TOP_SPEED};
-
-// The most intervals of a short list, and its bytes.
-const SHORT: usize = 16;
-
-const SHORT_BYTES: usize = RECORD_BYTES * SHORT;
+use theory::{Focal, HeldComponent, Join, Refusal, TOP_SPEED};
 
 // Two intervals joined.
 fn join_focals(op: Join, f: Focal, g: Focal) -> Focal
@@ -65,37 +60,8 @@ fn join_lists(op: Join, a: Records, b: Records, out: &mut [u8]) -> Option<usize>
     Some(list.count)
 }
 
-// Joins two lists of a store into its free rest; each is copied first, and has at most BYTES bytes. Store and free byte stand one by one here
-// and below, as in `s[free..]`.
-fn join_sized<const BYTES: usize>(
-    op: Join,
-    store: &mut [u8],
-    left: Span,
-    right: Span,
-    free: usize,
-) -> Result<usize, Refusal>
-    requires joinable { Joinable op store.old left right free }
-    requires short { Hold BYTES left right }
-    ensures value { result ≡ joined_as (join_in op store.old left right) }
-    ensures number { number_in result ≡ number_of_join (join_in op store.old left right) }
-    ensures list_length { join_length result ≡ length_of_join (join_in op store.old left right) }
-    ensures store_after { store.new ≡ joined_store op store.old left right free }
-{
-    let mut a = [0u8; BYTES];
-    let mut b = [0u8; BYTES];
-    a[..RECORD_BYTES * left.count].copy_from_slice(&store[left.range()]);
-    b[..RECORD_BYTES * right.count].copy_from_slice(&store[right.range()]);
-    join_lists(
-        op,
-        Records::new(&a, left.count),
-        Records::new(&b, right.count),
-        &mut store[free..],
-    )
-    .ok_or(Refusal::ListLength)
-}
-
-// Joins two lists of a store into its free rest: the length of their list, or refused where it has more than 256 different intervals. Short
-// lists take little room.
+// Joins two lists of a store into its free rest, which is lent while they are read where they stand: the length of their list, or refused where
+// it has more than 256 different intervals. Store and free byte stand one by one here and below, as in `s[free..]`.
 pub fn join_in_store(
     op: Join,
     store: &mut [u8],
@@ -109,11 +75,14 @@ pub fn join_in_store(
     ensures list_length { join_length result ≡ length_of_join (join_in op store.old left right) }
     ensures store_after { store.new ≡ joined_store op store.old left right free }
 {
-    if left.count <= SHORT && right.count <= SHORT {
-        join_sized::<SHORT_BYTES>(op, store, left, right, free)
-    } else {
-        join_sized::<LIST_BYTES>(op, store, left, right, free)
-    }
+    let (lists, rest) = store.split_at_mut(free);
+    join_lists(
+        op,
+        Records::new(&lists[left.range()], left.count),
+        Records::new(&lists[right.range()], right.count),
+        rest,
+    )
+    .ok_or(Refusal::ListLength)
 }
 
 // Puts what a component lists into an empty list, and answers the rest. A block ascends and a list descends: from the block's last interval to

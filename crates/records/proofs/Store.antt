@@ -1,11 +1,11 @@
 -- Lists one behind the other in a store: what stands where after a list was put behind the others, and the list at the front.
 -- Assumes nothing.
 use mathlib.Core.Path.{◌≡◌, refl, sym, ap, ◌∙◌}
-use mathlib.Core.List.{List, ◌++◌}
+use mathlib.Core.List.{List, ◌++◌, append_assoc}
 use Prim.Native.Nat.{ℕ, zero, suc, ◌+◌, ◌*◌, ◌-◌, ◌^◌, ◌≤◌, ◌<◌}
 use native.Mathlib.Omega.{arith}
 use lib.ListN.{length, take, drop, length-append, length-drop, take-append-drop, replicate}
-use lib.Seq.{drop-drop, drop_at, length-take-le, take_at, take-append-le, drop-append-le, drop-append-add}
+use lib.Seq.{drop-drop, drop_at, length-take-le, take-append-le, drop-append-le, drop-append-add}
 use Rattle.std.specs.List.{copy_within}
 use Rattle.theory.specs.Sums.{Every}
 use Rattle.theory.specs.Focal.{weights}
@@ -13,7 +13,8 @@ use Rattle.theory.specs.declared.Focal.{Focal}
 use Rattle.numbers.specs.Numbers.{number_at, Bytes}
 use Rattle.numbers.proofs.Numbers.{bytes_drop}
 use Rattle.records.specs.Records.{encode, head_record, records, Under, speed_limit}
-use Rattle.records.specs.Store.{zeroed, holding, list_in, holding_from, settled}
+use Rattle.records.specs.declared.Span.{Span}
+use Rattle.records.specs.Store.{zeroed, holding, list_in, list_of_span, holding_from, moved, settled}
 use Rattle.records.proofs.RecordLaws.{encode-records, length-encode, length-records, records-encode}
 
 -- ---- the first n records lie in the first 12 * n bytes
@@ -27,16 +28,20 @@ records-append zero x t h = refl
 records-append (suc n) x t h =
     rw (number_front x t 0 2 (omega arith), number_front x t 2 2 (omega arith), number_front x t 4 8 (omega arith), drop-append-le 12 x t (omega arith), records-append n (drop 12 x) t (rw length-drop (omega arith)))
 
--- It does not matter what stands behind them.
-records_front : (n : ℕ) (x t u : List ℕ) → 12 * n ≤ length x → records n (x ++ t) ≡ records n (x ++ u)
-records_front n x t u h = records-append n x t h ∙ sym (records-append n x u h)
+-- A list in the first `free` bytes stands in these,
+front_holds : (s : List ℕ) (free start n : ℕ) → free ≤ length s → start + 12 * n ≤ free → records n (drop start (take free s)) ≡ list_in s start n
+front_holds s free start n h k =
+    let l : length (take free s) ≡ free = length-take-le free s h in
+    sym (records-append n (drop start (take free s)) (drop free s) (rw length-drop (omega arith)))
+    ∙ ap (records n) (sym (drop-append-le start (take free s) (drop free s) (omega arith)) ∙ ap (drop start) (take-append-drop free s))
 
--- The 12 * n bytes from `start` on hold their records wherever they stand.
-pub copy_holds : (s z : List ℕ) (start n : ℕ) → start + 12 * n ≤ length s → records n (take (12 * n) (drop start s) ++ z) ≡ list_in s start n
-copy_holds s z start n h =
-    let d : List ℕ = drop start s in
-    let l : 12 * n ≤ length (take (12 * n) d) = rw (length-take-le (12 * n) d (rw length-drop (omega arith))) (omega arith) in
-    records_front n (take (12 * n) d) z (drop (12 * n) d) l ∙ ap (records n) (take-append-drop (12 * n) d)
+-- and is read from its own bytes.
+pub part_holds : (s : List ℕ) (free start n : ℕ) → free ≤ length s → start + 12 * n ≤ free → records n (take (12 * n) (drop start (take free s))) ≡ list_in s start n
+part_holds s free start n h k =
+    let d : List ℕ = drop start (take free s) in
+    let m : 12 * n ≤ length d = rw (length-drop, length-take-le free s h) (omega arith) in
+    let l : 12 * n ≤ length (take (12 * n) d) = rw (length-take-le (12 * n) d m) (omega arith) in
+    sym (records-append n (take (12 * n) d) (drop (12 * n) d) l) ∙ ap (records n) (take-append-drop (12 * n) d) ∙ front_holds s free start n h k
 
 -- ---- a buffer that holds a list
 
@@ -70,11 +75,10 @@ module _ (s : List ℕ) (free : ℕ) (l : List Focal) where
   -- every list before it stands as it stood,
   pub list_in_before : (start n : ℕ) → free ≤ length s → start + 12 * n ≤ free → list_in (holding_from s free l) start n ≡ list_in s start n
   list_in_before start n h k =
-      let t : List ℕ = holding (drop free s) l in
+      let d : List ℕ = drop start (take free s) in
       let lt : length (take free s) ≡ free = length-take-le free s h in
-      rw (drop-append-le start (take free s) t (omega arith))
-      (records_front n (drop start (take free s)) t (drop free s) (rw length-drop (omega arith))
-      ∙ ap (records n) (sym (drop-append-le start (take free s) (drop free s) (omega arith)) ∙ ap (drop start) (take-append-drop free s)))
+      rw (drop-append-le start (take free s) (holding (drop free s) l) (omega arith))
+      (records-append n d (holding (drop free s) l) (rw length-drop (omega arith)) ∙ front_holds s free start n h k)
 
   -- and later bytes are as they were.
   pub drop_from : (end : ℕ) → free + 12 * length l ≤ end → free ≤ length s → drop end (holding_from s free l) ≡ drop end s
@@ -86,20 +90,21 @@ module _ (s : List ℕ) (free : ℕ) (l : List Focal) where
       ap (λ (n : ℕ). drop n (take free s ++ t)) e ∙ drop-append-add (take free s) t (end - free)
       ∙ holding_behind (drop free s) l (end - free) (omega arith) ∙ drop-drop (end - free) free s ∙ ap (λ (n : ℕ). drop n s) e2
 
--- ---- the list at the front
+-- ---- a list that is moved, and the list at the front
 
-pub settles : (s t : List ℕ) (start n end : ℕ) → Bytes s → start + 12 * n ≤ length s → 12 * n ≤ end → t ≡ copy_within s start (start + 12 * n) 0
-    → zeroed t (12 * n) end ≡ settled end (list_in s start n) s
-settles s t start n end b h k e =
-    let l : List Focal = list_in s start n in
-    let ln : length l ≡ n = length-records n (drop start s) in
-    let bytes : encode l ≡ take (12 * n) (drop start s) = encode-records n (drop start s) (bytes_drop start s b) (rw length-drop (omega arith)) in
-    let e1 : start + 12 * n - start ≡ 12 * n = omega arith in
-    let e2 : 0 + (start + 12 * n - start) ≡ 12 * length l = omega arith in
-    let q : t ≡ holding s l = e ∙ (λ i. take (e1 i) (drop start s) ++ drop (e2 i) s) ∙ ap (λ (x : List ℕ). x ++ drop (12 * length l) s) (sym bytes) in
-    let front : take (12 * n) t ≡ encode l = ap (take (12 * n)) q ∙ take_at (encode l) (drop (12 * length l) s) (12 * n) (rw (length-encode, ln)) in
-    let back : drop end t ≡ drop end s = ap (drop end) q ∙ holding_behind s l end (omega arith) in
-    λ i. front i ++ (replicate (end - 12 * sym ln i) 0 ++ back i)
+module _ (s : List ℕ) (b : Bytes s) where
+  pub moves : (list : Span) (start : ℕ) → list.start + 12 * list.count ≤ length s
+      → copy_within s list.start (list.start + 12 * list.count) start ≡ moved s list start
+  moves list start h =
+      let l : List Focal = list_of_span s list in
+      let n : length l ≡ list.count = length-records list.count (drop list.start s) in
+      let bytes : encode l ≡ take (12 * list.count) (drop list.start s) =
+      encode-records list.count (drop list.start s) (bytes_drop list.start s b) (rw length-drop (omega arith)) in
+      let m : list.start + 12 * list.count - list.start ≡ 12 * list.count = omega arith in
+      rw (m, bytes, n, drop-drop (12 * list.count) start s) (append_assoc (take start s) (take (12 * list.count) (drop list.start s)) (drop (start + 12 * list.count) s))
+
+  pub settles : (n end : ℕ) → 12 * n ≤ length s → zeroed s (12 * n) end ≡ settled end (records n s) s
+  settles n end h = rw (encode-records n s b h, length-records n s) refl
 
 -- It is read back there.
 pub settled_list : (end : ℕ) (s : List ℕ) {l : List Focal} → Every (Under speed_limit) l → weights l < 2 ^ 64 → records (length l) (settled end l s) ≡ l

@@ -33,6 +33,10 @@ list_of_span s span = list_in s span.start span.count
 abbrev pub holding_from : List ℕ → ℕ → List Focal → List ℕ
 holding_from s free l = take free s ++ holding (drop free s) l
 
+-- The store s after a list of it was moved to byte `start`.
+abbrev pub moved : List ℕ → Span → ℕ → List ℕ
+moved s list start = holding_from s start (list_of_span s list)
+
 -- The list l stands at the front, the rest of the first `end` bytes is zero, later bytes are untouched.
 abbrev pub settled : ℕ → List Focal → List ℕ → List ℕ
 settled end l s = encode l ++ (replicate (end - record_bytes * length l) 0 ++ drop end s)

@@ -9,7 +9,7 @@ ghost use Rattle.theory.specs.Order.{order, InOrder};
 ghost use Rattle.theory.specs.Limits.{record_bytes};
 ghost use Rattle.numbers.specs.Numbers.{Bytes};
 ghost use Rattle.records.specs.Records.{head_record, records, records_of, nth_interval, key_of, keyed};
-ghost use Rattle.records.specs.Store.{with_record, zeroed, holding, list_of_span, settled};
+ghost use Rattle.records.specs.Store.{with_record, zeroed, holding, moved, settled};
 ghost use Rattle.records.specs.Insertion.{is_before, place, insertion_of, insert_or_stay, Insertable};
 
 mod view;
@@ -211,12 +211,19 @@ pub fn clear(s: &mut [u8], from: usize, to: usize)
     s[from..to].fill(0);
 }
 
-// Moves a list to the front of a store, and makes the rest of the first `end` bytes zero. `end` stands beside the store, since the bytes behind
-// are spoken of too: they stay.
-pub fn settle(store: &mut [u8], list: Span, end: usize)
-    requires { (list.start + record_bytes * list.count ≤ end) × (end ≤ length store.old) }
-    ensures { store.new ≡ settled end (list_of_span store.old list) store.old }
+// Moves a list to another place of its store.
+pub fn move_list(store: &mut [u8], list: Span, start: usize)
+    requires { (list.start + record_bytes * list.count ≤ length store.old) × (start + record_bytes * list.count ≤ length store.old) }
+    ensures { store.new ≡ moved store.old list start }
 {
-    store.copy_within(list.range(), 0);
-    clear(store, RECORD_BYTES * list.count, end);
+    store.copy_within(list.range(), start);
+}
+
+// Makes the bytes zero that stand behind the n records at the front of a store, up to `end`, which stands beside the store, since the bytes
+// behind it are spoken of too: they stay.
+pub fn settle(store: &mut [u8], n: usize, end: usize)
+    requires { (record_bytes * n ≤ end) × (end ≤ length store.old) }
+    ensures { store.new ≡ settled end (records n store.old) store.old }
+{
+    clear(store, RECORD_BYTES * n, end);
 }

@@ -1,8 +1,9 @@
 -- A plan that keeps the rules runs into the store: what holds while `rest` of its entries is left. Assumes nothing.
 use Prim.Native.Nat.{ℕ, zero, suc, ◌+◌, ◌-◌, ◌*◌, ◌≤◌, ◌<◌}
 use mathlib.Core.Path.{◌≡◌, refl, sym, ap, ap₂, ◌∙◌}
-use mathlib.Core.Bool.{Bool, true, false, cond, false≢true}
+use mathlib.Core.Bool.{Bool, true, false, false≢true}
 use mathlib.Core.List.{List, [], ◌∷◌}
+use Rattle.records.specs.declared.Span.{Span}
 use Rattle.std.proofs.Common.{Result, Ok, Err}
 use native.Mathlib.Numerals.{add-one}
 use native.Mathlib.Omega.{arith}
@@ -26,11 +27,11 @@ use Rattle.theory.specs.Refusals.{refusal_number}
 use Rattle.theory.proofs.Every.{index_of_every}
 use Rattle.theory.proofs.Structure.{named-length}
 use Rattle.theory.proofs.Totals.{fits_pairs, fits_join, fits_weights, fits_leaf, Fits}
-use Rattle.records.specs.Store.{holding_from, list_of_span}
+use Rattle.records.specs.Store.{holding_from, list_of_span, moved}
 use Rattle.records.proofs.RecordLaws.{length-records}
-use Rattle.records.proofs.Store.{drop_from}
+use Rattle.records.proofs.Store.{list_in_from}
 use Rattle.joins.specs.Filling.{Filled, fill}
-use Rattle.joins.specs.Joins.{pairs_in, Operand}
+use Rattle.joins.specs.Joins.{pairs_in}
 use Rattle.joins.proofs.Filling.{filled_room}
 use Rattle.joins.proofs.Answer.{fill_made}
 use Rattle.plan.specs.declared.Plan.{Plan}
@@ -38,15 +39,11 @@ use Rattle.plan.specs.Plan.{components_of, entries_of}
 use Rattle.plan.specs.Valid.{Known}
 use Rattle.plan.proofs.Entries.{known_component, components_count}
 use Rattle.run.specs.declared.Stack.{Stack}
-use Rattle.run.specs.Stack.{empty_stack, list_at, lists_below, with_list, pushed, pushed_store, top_span, top_joined, spent, Applicable, join_step, stack_then, join_store}
+use Rattle.run.specs.Stack.{empty_stack, list_at, lists_below, with_list, Pushable, pushed, pushed_store, top_span, top_joined, spent, Applicable, join_step, stack_then, join_store}
 use Rattle.run.specs.Run.{needed, leaf_list, walked, Runnable}
 use Rattle.run.proofs.Entries.{join_count, counted}
-use Rattle.run.proofs.Stacked.{Stacked, none, more, Topmost, top_two_of, fits_record, length_leaf}
-use Rattle.run.proofs.Placing.{Stored, on_top, stored_next}
-
--- The bytes that the lists of so many components and joins may take, each behind the one before it.
-abbrev space : ℕ → ℕ → ℕ
-space leaves joins = record_bytes * (most_masses * leaves + most_intervals * joins)
+use Rattle.run.proofs.Stacked.{Stacked, none, more, Topmost, top_two_of, fits_record, length_leaf, short_leaf, short_join, records_most}
+use Rattle.run.proofs.Placing.{Stored, records_below, records_are, ends_before, below_kept, stored_kept, on_top, stored_next}
 
 -- What is left to walk on lists.
 abbrev walk_on : Plan → ℕ → List Entry → List (List Focal) → ℕ → Evaluation (List Focal)
@@ -54,17 +51,15 @@ walk_on p allowance = walk_lists ◌*◌ allowance (leaf_list p)
 
 pub record Running (p : Plan) (allowance : ℕ) (store₀ : List ℕ) (rest : List Entry) (store : List ℕ) (st : Stack) : Type 0 where
   pub stored : Stored (needed p) store₀ store st
-  -- The stack holds lists over the components named so far.
+  -- The stack holds lists over the components named so far, and so no more records than these make room for (`records_most`).
   pub held : ℕ
   pub lists : Stacked held (lists_below store st st.depth)
-  pub height : (st.depth ≤ held) × (held ≤ most_components * st.depth)
+  pub height : st.depth ≤ held
   -- The entries left name components below n, have joins that find two lists, and leave one list.
   pub unnamed : held + length (named rest) ≡ p.count
   pub known : Every (Known p.count) rest
   pub balance : st.depth + length (named rest) ≡ join_count rest + 1
   pub two : joins_find_two rest st.depth ≡ true
-  -- There is room for the lists to come; joined ones stay where they are.
-  pub room : st.free + space (length (named rest)) (join_count rest) ≤ space p.count (p.count - 1)
   pub allowed : st.pairs ≤ allowance
   pub walks : walk_on p allowance rest (lists_below store st st.depth) st.pairs ≡ walked p allowance
 
@@ -78,7 +73,7 @@ module _ {p : Plan} {store₀ : List ℕ} (ready : Runnable p store₀) {allowan
       let n : length (named (entries_of p)) ≡ p.count = named-length p.count (entries_of p) ready.valid.named_once in
       let j : join_count (entries_of p) + 1 ≡ p.count = omega (arith, counted (entries_of p), ready.valid.entries) in
       record {
-        stored = record { places = refl; apart = λ k h. absurd (omega arith); same_length = refl; later = refl };
+        stored = record { places = refl; stand = λ k h. absurd (omega arith); behind = refl; same_length = refl; later = refl };
         held = 0;
         lists = none;
         height = omega arith;
@@ -86,7 +81,6 @@ module _ {p : Plan} {store₀ : List ℕ} (ready : Runnable p store₀) {allowan
         known = ready.valid.known;
         balance = omega arith;
         two = ready.valid.find_two;
-        room = omega (arith, ready.valid.least, ready.valid.most);
         allowed = omega arith;
         walks = refl;
       }
@@ -96,6 +90,11 @@ module _ {p : Plan} {store₀ : List ℕ} (ready : Runnable p store₀) {allowan
   finished {store = store} {st = st} running =
       let one : st.depth ≡ 1 = omega (arith, running.balance) in
       sym (ap (λ d. completed (lists_below store st d) st.pairs) (sym one) ∙ running.walks)
+
+  -- Behind the lists of up to six components there is room for one of 256 records.
+  room_left : {rest : List Entry} {store : List ℕ} {st : Stack} → Running p allowance store₀ rest store st → (st.depth ≤ most_components) × (st.free + list_bytes ≤ needed p)
+  room_left {store = store} {st = st} running =
+      omega (arith, running.height, running.unnamed, ready.valid.most, running.stored.behind, records_are store st st.depth, records_most running.lists)
 
   -- ---- a component's entry
   module _ {store : List ℕ} {j : ℕ} {rest : List Entry} {st : Stack} (running : Running p allowance store₀ (component j ∷ rest) store st) where
@@ -112,7 +111,10 @@ module _ {p : Plan} {store₀ : List ℕ} (ready : Runnable p store₀) {allowan
     fits = fits_leaf c (of_component ready.valid.in_range) (omega (arith, of_component ready.valid.totals, of_component ready.valid.balanced))
 
     push_room : (st.depth < most_components) × (st.free + list_bytes ≤ needed p)
-    push_room = omega (arith, running.height, running.unnamed, running.balance, running.room, ready.valid.most)
+    push_room = omega (arith, room_left running, running.height, running.unnamed, ready.valid.most)
+
+    pub pushable : Pushable store st
+    pushable = record { place = push_room.0; room = omega (arith, push_room, ready.enough, running.stored.same_length) }
 
     -- It holds at most eight intervals.
     pub holds_eight : c.count ≤ most_held
@@ -123,17 +125,17 @@ module _ {p : Plan} {store₀ : List ℕ} (ready : Runnable p store₀) {allowan
         let l : List Focal = collect (masses c) in
         let short : length l ≤ most_masses = length_leaf c holds_eight in
         let top : lists_below (pushed_store c store st) (pushed c st) (st.depth + 1) ≡ l ∷ lists_below store st st.depth =
-        on_top running.stored ready.enough st.depth st.pairs l (omega arith) push_room.0 push_room.1 (omega arith) (fits_record fits (omega arith)) in
+        on_top running.stored ready.enough st.free l push_room.1 (omega arith) st.depth st.pairs (omega arith) running.stored.behind push_room.0
+        (fits_record fits (omega arith)) in
         record {
-          stored = stored_next running.stored ready.enough st.depth st.pairs l (omega arith) push_room.0 push_room.1 (omega arith);
+          stored = stored_next running.stored ready.enough st.free l push_room.1 (omega arith) st.depth st.pairs (omega arith) running.stored.behind push_room.0;
           held = suc running.held;
-          lists = rw top (more {k = suc running.held} fits running.lists (omega arith));
+          lists = rw top (more {k = suc running.held} fits (short_leaf c holds_eight) running.lists (omega arith));
           height = omega (arith, running.height);
           unnamed = omega (arith, running.unnamed);
           known = (every_first running.known).1;
           balance = omega (arith, running.balance);
           two = rw (add-one st.depth) running.two;
-          room = omega (arith, running.room, short);
           allowed = running.allowed;
           walks = rw top running.walks;
         }
@@ -149,9 +151,6 @@ module _ {p : Plan} {store₀ : List ℕ} (ready : Runnable p store₀) {allowan
 
     two_there : 2 ≤ st.depth
     two_there = (finds_two st.depth running.two).0
-
-    join_room : (st.depth ≤ most_components) × (st.free + list_bytes ≤ needed p)
-    join_room = omega (arith, running.height, running.unnamed, running.balance, running.room, ready.valid.most)
 
     abbrev below : List (List Focal)
     below = lists_below store st (st.depth - 2)
@@ -172,20 +171,16 @@ module _ {p : Plan} {store₀ : List ℕ} (ready : Runnable p store₀) {allowan
     together : top_two.m + top_two.n ≤ most_components
     together = omega (arith, top_two.together, running.unnamed, ready.valid.most)
 
-    operand : (k : ℕ) → 0 < k → k ≤ st.depth → Operand store (top_span st k)
-    operand k a b =
-        let at-k = running.stored.apart (st.depth - k) (omega arith) in
-        record { count = at-k.1; inside = omega (arith, at-k, join_room, ready.enough, running.stored.same_length) }
-
     pub applicable : Applicable op allowance store st
     applicable = record {
       two = two_there;
-      place = join_room.0;
+      place = (room_left running).0;
       allowed = running.allowed;
+      short = ((running.stored.stand (st.depth - 2) (omega (arith, two_there))).1, (running.stored.stand (st.depth - 1) (omega (arith, two_there))).1);
       joinable = record {
-        first = operand 2 (omega arith) two_there;
-        second = operand 1 (omega arith) (omega (arith, two_there));
-        room = omega (arith, join_room, ready.enough, running.stored.same_length);
+        first = omega (arith, running.stored.behind, ends_before running.stored ready.enough (st.depth - 2) st.depth (omega (arith, two_there)) (omega arith));
+        second = omega (arith, running.stored.behind, ends_before running.stored ready.enough (st.depth - 1) st.depth (omega (arith, two_there)) (omega arith));
+        room = omega (arith, room_left running, ready.enough, running.stored.same_length);
         fits = fits_weights (fits_pairs op top_two.fits_left top_two.fits_right) together;
       };
     }
@@ -204,34 +199,58 @@ module _ {p : Plan} {store₀ : List ℕ} (ready : Runnable p store₀) {allowan
         ∙ ap₂ (λ m n. refuse_if (ltb allowance (st.pairs + m * n)) 13 (refuse_if (ltb most_intervals (length list)) 14 (walk_on p allowance rest (list ∷ below) (st.pairs + m * n))))
         (counts_are 2) (counts_are 1))
 
-    abbrev joined_stack : Stack
-    joined_stack = with_list st (st.depth - 2) (length list) (spent st)
+    -- It is formed behind the others; then it stands where the left one of the two stood.
+    abbrev formed : List ℕ
+    formed = holding_from store st.free list
 
-    join_next : spent st ≤ allowance → length list ≤ most_intervals → Running p allowance store₀ rest (holding_from store st.free list) joined_stack
+    abbrev left : Span
+    left = top_span st 2
+
+    abbrev joined_stack : Stack
+    joined_stack = with_list st (st.depth - 2) (record { start = left.start; count = length list }) (spent st)
+
+    fits_list : Fits (top_two.m + top_two.n) list
+    fits_list = fits_join op top_two.fits_left top_two.fits_right
+
+    moves_there : moved formed (record { start = st.free; count = length list }) left.start ≡ holding_from formed left.start list
+    moves_there =
+        let u = fits_record fits_list together in
+        ap (holding_from formed left.start) (list_in_from store st.free list (omega (arith, room_left running, ready.enough, running.stored.same_length)) u.0 u.1)
+
+    join_next : spent st ≤ allowance → length list ≤ most_intervals → Running p allowance store₀ rest (holding_from formed left.start list) joined_stack
     join_next a b =
         let d : ℕ = st.depth - 2 in
-        let place : d < most_components = omega (arith, join_room, two_there) in
-        let fits : Fits (top_two.m + top_two.n) list = fits_join op top_two.fits_left top_two.fits_right in
-        let on : lists_below (holding_from store st.free list) joined_stack (d + 1) ≡ list ∷ below =
-        on_top running.stored ready.enough d (spent st) list (omega arith) place join_room.1 b (fits_record fits together) in
+        let place : d < most_components = omega (arith, room_left running, two_there) in
+        let stored : Stored (needed p) store₀ formed st = stored_kept running.stored ready.enough st.free list (room_left running).1 b in
+        let start : left.start ≡ record_bytes * records_below st d = (running.stored.stand d (omega (arith, two_there))).0 in
+        let room : left.start + list_bytes ≤ needed p = omega (arith, applicable.joinable.first, room_left running) in
+        let on : lists_below (holding_from formed left.start list) joined_stack (d + 1) ≡ list ∷ below =
+        on_top stored ready.enough left.start list room b d (spent st) (omega arith) start place (fits_record fits_list together)
+        ∙ ap (list ∷◌) (below_kept running.stored ready.enough st.free list (room_left running).1 b d (omega arith) (omega (arith, start, applicable.joinable.first))) in
         record {
-          stored = stored_next running.stored ready.enough d (spent st) list (omega arith) place join_room.1 b;
+          stored = stored_next stored ready.enough left.start list room b d (spent st) (omega arith) start place;
           held = running.held;
-          lists = rw on (more fits top_two.stacked top_two.together);
-          height = omega (arith, running.height, running.unnamed, ready.valid.most, two_there);
+          lists = rw on (more fits_list (short_join op top_two.short_left top_two.short_right b) top_two.stacked top_two.together);
+          height = omega (arith, running.height, two_there);
           unnamed = running.unnamed;
           known = (every_first running.known).1;
           balance = omega (arith, running.balance, two_there);
           two = (finds_two st.depth running.two).1;
-          room = omega (arith, running.room);
           allowed = a;
           walks = rw on (sym (at_join ∙ rw (le-ltb allowance (spent st) a, le-ltb most_intervals (length list) b) refl));
         }
 
-    -- As the join ends, the run goes on, or the walk is refused with its number.
+    -- As the join ends, the run goes on, or the walk is refused with its number, and the bytes behind those that the plan needs are as they were.
     abbrev Out : Result (Unit {0}) Refusal → Stack → List ℕ → Type 0
     Out (Ok x) t after = Running p allowance store₀ rest after t
-    Out (Err refusal) t after = walked p allowance ≡ refused (refusal_number refusal)
+    Out (Err refusal) t after = (walked p allowance ≡ refused (refusal_number refusal)) × (drop (needed p) after ≡ drop (needed p) store₀)
+
+    -- What the join fills in.
+    abbrev made : Filled
+    made = fill [] (pairs_in op store (top_span st 2) (top_span st 1))
+
+    made_room : length made.list ≤ most_intervals
+    made_room = filled_room [] (pairs_in op store (top_span st 2) (top_span st 1)) (omega arith)
 
     pub join_out : {r : Result (Unit {0}) Refusal} {t : Stack} {after : List ℕ} → r ≡ join_step op allowance store st → t ≡ stack_then op allowance store st
         → after ≡ join_store op allowance store st → Out r t after
@@ -239,21 +258,8 @@ module _ {p : Plan} {store₀ : List ℕ} (ready : Runnable p store₀) {allowan
       where
         go : (a : Bool) → ltb allowance (spent st) ≡ a → (b : Bool) → ltb most_intervals (length list) ≡ b
             → Out (join_step op allowance store st) (stack_then op allowance store st) (join_store op allowance store st)
-        go true x b y = rw x (at_join ∙ rw x)
-        go false x true y = rw (x, y) (at_join ∙ rw (x, y))
+        go true x b y = rw x (at_join ∙ rw x, running.stored.later)
+        go false x true y = rw (x, y) (at_join ∙ rw (x, y), (stored_kept running.stored ready.enough st.free made.list (room_left running).1 made_room).later)
         go false x false y =
             let b : length list ≤ most_intervals = ltb-false most_intervals (length list) y in
-            rw (x, y, fill_made (pairs_in op store (top_span st 2) (top_span st 1)) b) (join_next (ltb-false allowance (spent st) x) b)
-
-    -- The bytes behind those that the plan needs stay as they were, at a refusal too.
-    pub join_later : drop (needed p) (join_store op allowance store st) ≡ drop (needed p) store₀
-    join_later = go (ltb allowance (spent st))
-      where
-        made : Filled
-        made = fill [] (pairs_in op store (top_span st 2) (top_span st 1))
-
-        go : (b : Bool) → drop (needed p) (cond b store (holding_from store st.free made.list)) ≡ drop (needed p) store₀
-        go true = running.stored.later
-        go false =
-            drop_from store st.free made.list (needed p) (omega (arith, join_room, filled_room [] (pairs_in op store (top_span st 2) (top_span st 1)) (omega arith)))
-            (omega (arith, join_room, ready.enough, running.stored.same_length)) ∙ running.stored.later
+            rw (x, y, fill_made (pairs_in op store (top_span st 2) (top_span st 1)) b, moves_there) (join_next (ltb-false allowance (spent st) x) b)

@@ -9,7 +9,7 @@ use Rattle.theory.specs.declared.Join.{Join}
 use Rattle.theory.specs.declared.Refusal.{Refusal}
 use Rattle.theory.specs.declared.Refusal.TheVariants.{Allowance, ListLength}
 use Rattle.records.specs.declared.Span.{Span}
-use Rattle.records.specs.Store.{list_of_span, holding_from}
+use Rattle.records.specs.Store.{list_of_span, holding_from, moved}
 use Rattle.joins.specs.Joins.{join_in, joined_store, Joinable}
 use Rattle.run.specs.declared.Stack.{Stack}
 
@@ -33,14 +33,14 @@ abbrev pub lists_below : List ℕ → Stack → ℕ → List (List Focal)
 lists_below store st zero = []
 lists_below store st (suc d) = list_at store st d ∷ lists_below store st d
 
--- The stack whose topmost list, at place d, has the n records at the front of the store's free rest; the free rest is then behind it.
-abbrev pub with_list : Stack → ℕ → ℕ → ℕ → Stack
-with_list st d n pairs =
-    record { lists = set st.lists d (record { start = st.free; count = n }); depth = d + 1; free = st.free + record_bytes * n; pairs = pairs }
+-- The stack with another topmost list, at place d; the free rest is then behind it.
+abbrev pub with_list : Stack → ℕ → Span → ℕ → Stack
+with_list st d list pairs =
+    record { lists = set st.lists d list; depth = d + 1; free = list.start + record_bytes * list.count; pairs = pairs }
 
 -- A component's entry: its list goes behind the others.
 abbrev pub pushed : Component → Stack → Stack
-pushed c st = with_list st st.depth (length (collect (masses c))) st.pairs
+pushed c st = with_list st st.depth (record { start = st.free; count = length (collect (masses c)) }) st.pairs
 
 abbrev pub pushed_store : Component → List ℕ → Stack → List ℕ
 pushed_store c store st = holding_from store st.free (collect (masses c))
@@ -68,20 +68,27 @@ join_step op allowance store st =
     (cond (ltb most_intervals (length (top_joined op store st))) (Err ListLength)
     (Ok tt))
 
--- else its list goes behind the others and stands for the two.
+-- else its list stands for the two, in the left one's place.
 abbrev pub stack_then : Join → ℕ → List ℕ → Stack → Stack
 stack_then op allowance store st =
     cond (ltb allowance (spent st)) st
     (cond (ltb most_intervals (length (top_joined op store st))) st
-    (with_list st (st.depth - 2) (length (top_joined op store st)) (spent st)))
+    (with_list st (st.depth - 2) (record { start = (top_span st 2).start; count = length (top_joined op store st) }) (spent st)))
+
+-- Its list is formed behind the others, as far as it goes in, and then moved to the left one's place.
+abbrev pub formed_store : Join → List ℕ → Stack → List ℕ
+formed_store op store st = joined_store op store (top_span st 2) (top_span st 1) st.free
 
 abbrev pub join_store : Join → ℕ → List ℕ → Stack → List ℕ
 join_store op allowance store st =
-    cond (ltb allowance (spent st)) store (joined_store op store (top_span st 2) (top_span st 1) st.free)
+    cond (ltb allowance (spent st)) store
+    (cond (ltb most_intervals (length (top_joined op store st))) (formed_store op store st)
+    (moved (formed_store op store st) (record { start = st.free; count = length (top_joined op store st) }) (top_span st 2).start))
 
 -- It asks for two lists that can be joined into the free rest, and pairs within the allowance so far.
 pub record Applicable (op : Join) (allowance : ℕ) (store : List ℕ) (st : Stack) : Type 0 where
   pub two : 2 ≤ st.depth
   pub place : st.depth ≤ most_components
   pub allowed : st.pairs ≤ allowance
+  pub short : ((top_span st 2).count ≤ most_intervals) × ((top_span st 1).count ≤ most_intervals)
   pub joinable : Joinable op store (top_span st 2) (top_span st 1) st.free

@@ -9,11 +9,11 @@ ghost use Rattle.run.specs.Run.{store_for, needed, walked, ran_as, ran_of, store
 
 use plan::Plan;
 use records::Span;
-use theory::{Entry, HeldComponent, Join, MOST_COMPONENTS, RECORD_BYTES, Refusal, STORE_BYTES};
+use theory::{Entry, HeldComponent, Join, MOST_COMPONENTS, Refusal, STORE_BYTES};
 
-// The lists on the stack, the first `depth` in use; the byte behind them all; the pairs formed so far. No heap: a vector of fixed capacity in
-// place of array and depth would be as long, with two unwraps and a further crate in what C links. The store stands beside it: a stack is a
-// plain value in the definitions.
+// The lists on the stack, the first `depth` in use, each directly behind the one below it; the byte behind them all; the pairs formed so far.
+// No heap: a vector of fixed capacity in place of array and depth would be as long, with two unwraps and a further crate in what C links. The
+// store stands beside it: a stack is a plain value in the definitions.
 #[derive(Clone, Copy, Default)]
 pub struct Stack {
     pub lists: [Span; MOST_COMPONENTS],
@@ -37,17 +37,14 @@ pub fn store_for(n: usize) -> usize
 }
 
 impl Stack {
-    // Makes the n records from the free rest's first byte on the topmost list, at place d.
-    fn put_list(&mut self, d: usize, n: usize)
-        requires { (d < most_components) × (self.old.free + record_bytes * n < 2 ^ 64) }
-        ensures { self.new ≡ with_list self.old d n self.old.pairs }
+    // Makes a list the topmost one, at place d. The free rest is then behind it.
+    fn put_list(&mut self, d: usize, list: Span)
+        requires { (d < most_components) × (list.start + record_bytes * list.count < 2 ^ 64) }
+        ensures { self.new ≡ with_list self.old d list self.old.pairs }
     {
-        self.lists[d] = Span {
-            start: self.free,
-            count: n,
-        };
+        self.lists[d] = list;
         self.depth = d + 1;
-        self.free += RECORD_BYTES * n;
+        self.free = list.range().end;
     }
 
     // A component's entry: its list goes into the store behind the lists already there.
@@ -56,11 +53,13 @@ impl Stack {
         ensures self_after { self.new ≡ pushed c.entry.component.now self.old }
         ensures store_after { store.new ≡ pushed_store c.entry.component.now store.old self.old }
     {
-        let n = joins::put_in_store(c, store, self.free);
-        self.put_list(self.depth, n);
+        let count = joins::put_in_store(c, store, self.free);
+        let start = self.free;
+        self.put_list(self.depth, Span { start, count });
     }
 
-    // A join's entry: the pairs are tested against the allowance, then the two topmost lists are joined into the free rest of the store.
+    // A join's entry: the pairs are tested against the allowance, then the two topmost lists are joined into the free rest of the store, and
+    // their list takes the place of the left one.
     fn join(&mut self, op: Join, store: &mut [u8], allowance: u32) -> Result<(), Refusal>
         requires { Applicable op allowance store.old self.old }
         ensures value { result ≡ join_step op allowance store.old self.old }
@@ -71,8 +70,10 @@ impl Stack {
         let right = self.lists[self.depth - 1];
         let spent = self.pairs + left.count as u64 * right.count as u64;
         Refusal::Allowance.when(u64::from(allowance) < spent)?;
-        let n = joins::join_in_store(op, store, left, right, self.free)?;
-        self.put_list(self.depth - 2, n);
+        let start = self.free;
+        let count = joins::join_in_store(op, store, left, right, start)?;
+        records::move_list(store, Span { start, count }, left.start);
+        self.put_list(self.depth - 2, Span { count, ..left });
         self.pairs = spent;
         Ok(())
     }
@@ -98,10 +99,10 @@ pub fn run_plan(p: Plan, allowance: u32, store: &mut [u8]) -> Result<Run, Refusa
             }
         }
     }
-    let left = stack.lists[0];
-    records::settle(store, left, size);
+    let intervals = stack.lists[0].count;
+    records::settle(store, intervals, size);
     Ok(Run {
         pairs: stack.pairs,
-        intervals: left.count,
+        intervals,
     })
 }

@@ -1,12 +1,15 @@
--- Where a new interval goes, and lists that are built by one insertion after the other. Assumes nothing.
-use Prim.Native.Nat.{suc, ◌≤◌, Ordering}
+-- Where a new interval goes, lists that are built by one insertion after the other, and how long they get. Assumes nothing.
+use Prim.Native.Nat.{ℕ, suc, ◌*◌, ◌≤◌, Ordering}
 use mathlib.Core.Path.{◌≡◌, refl, sym, ap, ◌∙◌}
-use mathlib.Core.List.{List, [], ◌∷◌, ◌++◌}
-use native.Mathlib.Nat.{add_assoc, add_comm}
+use mathlib.Core.List.{List, [], ◌∷◌, ◌++◌, map}
+use native.Mathlib.Nat.{add_assoc, add_comm, zero-mul, suc-mul}
 use native.Mathlib.Omega.{arith}
-use lib.ListN.{length}
+use lib.ListN.{length, length-append, length-map}
 use Rattle.theory.specs.Sums.{Every}
 use Rattle.theory.specs.declared.Focal.{Focal}
+use Rattle.theory.specs.declared.Join.{Join}
+use Rattle.theory.specs.Joins.{joined_by, pairs_by}
+use Rattle.theory.specs.Lists.{join_lists_by}
 use Rattle.theory.specs.Order.{order, Before, merged, inserted_at, inserted, collect}
 use Rattle.theory.proofs.Order.{Placed, placed, before_trans, before_same, order_is}
 
@@ -101,3 +104,14 @@ length_insert f (g ∷ gs) = go (order f g) (length_insert f gs)
 pub length-collect : (fs : List Focal) → length (collect fs) ≤ length fs
 length-collect [] = omega arith
 length-collect (f ∷ fs) = omega (arith, length_insert f (collect fs), length-collect fs)
+
+-- A join's list has at most as many intervals as pairs are formed.
+module _ (times : ℕ → ℕ → ℕ) (op : Join) where
+  length-pairs : (fs gs : List Focal) → length (pairs_by times op fs gs) ≡ length fs * length gs
+  length-pairs [] gs = sym (zero-mul (length gs))
+  length-pairs (f ∷ fs) gs =
+      omega
+      (arith, length-append (map (joined_by times op f) gs) (pairs_by times op fs gs), length-map gs (joined_by times op f), length-pairs fs gs, suc-mul (length fs) (length gs))
+
+  pub length-join : (fs gs : List Focal) → length (join_lists_by times op fs gs) ≤ length fs * length gs
+  length-join fs gs = omega (arith, length-collect (pairs_by times op fs gs), length-pairs fs gs)

@@ -38,9 +38,9 @@ record_bytes = 12
 abbrev pub list_bytes : ℕ
 list_bytes = record_bytes * most_intervals
 
--- The bytes that the store (document 01: the list buffer) needs.
+-- The bytes that the store (document 01: the list buffer) needs: 768 records.
 abbrev pub store_bytes : ℕ
-store_bytes = 16384
+store_bytes = 9216
 
 -- A target is a share in thousandths, 1 to 1,000.
 abbrev pub thousandths : ℕ

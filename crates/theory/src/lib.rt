@@ -28,9 +28,7 @@ pub const MOST_INTERVALS: usize = 256;
 
 pub const RECORD_BYTES: usize = 12;
 
-pub const LIST_BYTES: usize = RECORD_BYTES * MOST_INTERVALS;
-
-pub const STORE_BYTES: usize = 16384;
+pub const STORE_BYTES: usize = 9216;
 
 pub const THOUSANDTHS: u64 = 1000;
 

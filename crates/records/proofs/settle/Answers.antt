@@ -6,6 +6,4 @@ use Rattle.records.proofs.Store.{settles}
 use Rattle.records.proofs.settle.Goals as goal
 
 pub returns : goal.returns
-returns c =
-    let a = c.args in
-    c.clear.ensures ∙ settles a.store.now c.copy_within.new.self a.list.start a.list.count a.end (search rules) (omega arith) (omega arith) (rw c.range.ensures at c.copy_within.ensures.after)
+returns c = c.clear.ensures ∙ settles c.args.store.now (search rules) c.args.n c.args.end (omega arith)

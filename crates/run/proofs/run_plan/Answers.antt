@@ -8,14 +8,15 @@ use Rattle.theory.specs.Limits.{most_components}
 use Rattle.theory.specs.declared.Entry.{Entry}
 use Rattle.theory.specs.Codes.{entry_of}
 use Rattle.records.specs.declared.Span.{Span}
+use Rattle.records.specs.Records.{records}
 use Rattle.records.proofs.RecordLaws.{length-records}
 use Rattle.plan.specs.declared.Plan.{Plan}
 use Rattle.plan.proofs.Entries.{components_count}
 use Rattle.run.specs.declared.Stack.{Stack}
-use Rattle.run.specs.Stack.{no_span, empty_stack, span_at, list_at}
-use Rattle.run.specs.Run.{needed, ran_of}
+use Rattle.run.specs.Stack.{no_span, empty_stack, span_at}
+use Rattle.run.specs.Run.{ran_of}
 use Rattle.run.proofs.Placing.{clears, fills}
-use Rattle.run.proofs.Running.{Running, starting, finished, component_below, holds_eight, push_next, applicable, join_out, join_later}
+use Rattle.run.proofs.Running.{Running, starting, finished, component_below, holds_eight, pushable, push_next, applicable, join_out}
 use Rattle.run.proofs.run_plan.Goals as goal
 use Rattle.run.proofs.run_plan.Goals.{in-Component, in-Join+in_default}
 
@@ -56,22 +57,21 @@ pub new-requires : goal.new-requires
 new-requires c =
     rw c.used_components.ensures (holds_eight c.requires (running_at _ c.loop-code.invariant c.loop-code-test.true c.in-Component.ensures.0))
 
+pub push-requires : goal.push-requires
+push-requires c = pushable c.requires (running_at _ c.loop-code.invariant c.loop-code-test.true c.in-Component.ensures.0)
+
 pub join-requires : goal.join-requires
 join-requires c = applicable c.requires (running_at _ c.loop-code.invariant c.loop-code-test.true c.in-Join.ensures.0)
 
 pub returns-in-Err-clause-value : goal.returns-in-Err-clause-value
 returns-in-Err-clause-value c =
-    ap ran_of
-    (sym
-    (join_out c.requires (running_at _ c.loop-code.invariant c.loop-code-test.true c.in-Join.ensures.0) c.in-Err.ensures.value c.in-Err.ensures.self_after c.in-Err.ensures.store_after))
+    let refused = join_out c.requires (running_at _ c.loop-code.invariant c.loop-code-test.true c.in-Join.ensures.0) c.in-Err.ensures.value c.in-Err.ensures.self_after c.in-Err.ensures.store_after in
+    ap ran_of (sym refused.0)
 
 pub returns-in-Err-clause-store_after : goal.returns-in-Err-clause-store_after
 returns-in-Err-clause-store_after c =
-    let running = running_at _ c.loop-code.invariant c.loop-code-test.true c.in-Join.ensures.0 in
-    rw (join_out c.requires running c.in-Err.ensures.value c.in-Err.ensures.self_after c.in-Err.ensures.store_after)
-    (clears c.store_for-size.ensures c.join.new.store c.args.store.now c.clear.new.s
-    (ap (drop (needed c.args.p)) c.in-Err.ensures.store_after ∙ join_later c.requires running)
-    c.clear.ensures)
+    let refused = join_out c.requires (running_at _ c.loop-code.invariant c.loop-code-test.true c.in-Join.ensures.0) c.in-Err.ensures.value c.in-Err.ensures.self_after c.in-Err.ensures.store_after in
+    rw refused.0 (clears c.store_for-size.ensures c.join.new.store c.args.store.now c.clear.new.s refused.1 c.clear.ensures)
 
 pub loop-code-preserved : goal.loop-code-preserved
 loop-code-preserved c = elim c.match-from.branch [
@@ -87,7 +87,7 @@ loop-code-preserved c = elim c.match-from.branch [
 pub settle-requires : goal.settle-requires
 settle-requires c =
     let end = ended _ c.loop-code.invariant c.loop-code-test.false in
-    omega (arith, end.stored.apart 0 (omega (arith, end.balance)), end.room, c.requires.valid.most)
+    omega (arith, end.stored.stand 0 (omega (arith, end.balance)), c.requires.enough)
 
 pub returns-clause-value : goal.returns-clause-value
 returns-clause-value c =
@@ -97,6 +97,7 @@ returns-clause-value c =
 pub returns-clause-store_after : goal.returns-clause-store_after
 returns-clause-store_after c =
     let end = ended _ c.loop-code.invariant c.loop-code-test.false in
-    rw (finished c.requires end)
-    (fills c.store_for-size.ensures c.loop-code.store c.args.store.now c.settle.new.store end.stored.later (list_at c.loop-code.store c.loop-code.stack 0)
+    let front : (span_at c.loop-code.stack 0).start ≡ 0 = omega (arith, end.stored.stand 0 (omega (arith, end.balance))) in
+    rw (finished c.requires end, front)
+    (fills c.store_for-size.ensures c.loop-code.store c.args.store.now c.settle.new.store end.stored.later (records (span_at c.loop-code.stack 0).count c.loop-code.store)
     c.settle.ensures)
