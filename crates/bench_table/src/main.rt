@@ -22,10 +22,7 @@ use queries::Shares;
 use records::Records;
 use std::io::{Print, Stdout};
 use std::{array, fmt, io};
-use theory::{
-    Component, Focal, Join, MOST_ENTRIES, MOST_HELD, MOST_INTERVALS, Refusal, SERIES_CODE,
-    SHARED_CODE,
-};
+use theory::{Component, Focal, Join, MOST_ENTRIES, MOST_HELD, MOST_INTERVALS, Refusal};
 
 // The bytes of the longest sheet, and of the store.
 const LONGEST: usize = 224;
@@ -582,46 +579,12 @@ fn rows_of_limits(t: &mut Table) -> io::Result<()> {
 // Places of joined lists that are used again: two lists of 256 joined to one of 256, six lists of components one behind the other, and lists
 // of components behind one of 256.
 fn rows_of_places(t: &mut Table) -> io::Result<()> {
-    let two = two_groups([
-        0,
-        1,
-        SHARED_CODE,
-        2,
-        SHARED_CODE,
-        3,
-        4,
-        SHARED_CODE,
-        5,
-        SHARED_CODE,
-        SERIES_CODE,
-    ]);
+    let shared = code_of(Join::Shared);
+    let series = code_of(Join::Series);
+    let two = two_groups([0, 1, shared, 2, shared, 3, 4, shared, 5, shared, series]);
     let two_list = every_speed(2);
-    let six = two_groups([
-        0,
-        1,
-        2,
-        3,
-        4,
-        5,
-        SHARED_CODE,
-        SHARED_CODE,
-        SERIES_CODE,
-        SERIES_CODE,
-        SERIES_CODE,
-    ]);
-    let behind = two_groups([
-        0,
-        1,
-        SHARED_CODE,
-        2,
-        SHARED_CODE,
-        3,
-        4,
-        5,
-        SERIES_CODE,
-        SERIES_CODE,
-        SERIES_CODE,
-    ]);
+    let six = two_groups([0, 1, 2, 3, 4, 5, shared, shared, series, series, series]);
+    let behind = two_groups([0, 1, shared, 2, shared, 3, 4, 5, series, series, series]);
     rows! { t;
         "D1, D2, D3 with 4, twice in series, demand 128, allowance 66,176":
             two.at(128).allow(66176).gives(ok(accepted(65536, 16384, 16384, 66176, 256)), &two_list),

@@ -1,4 +1,4 @@
--- Lists one behind the other in a store: what stands where after a list was put behind the others, and the list at the front.
+-- Lists one behind the other in a store: what stands where after a list was put behind the others or moved, and the list at the front.
 -- Assumes nothing.
 use mathlib.Core.Path.{◌≡◌, refl, sym, ap, ◌∙◌}
 use mathlib.Core.List.{List, ◌++◌, append_assoc}

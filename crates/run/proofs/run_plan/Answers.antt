@@ -63,15 +63,13 @@ push-requires c = pushable c.requires (running_at _ c.loop-code.invariant c.loop
 pub join-requires : goal.join-requires
 join-requires c = applicable c.requires (running_at _ c.loop-code.invariant c.loop-code-test.true c.in-Join.ensures.0)
 
-pub returns-in-Err-clause-value : goal.returns-in-Err-clause-value
-returns-in-Err-clause-value c =
+pub returns-in-Err : goal.returns-in-Err
+returns-in-Err c =
     let refused = join_out c.requires (running_at _ c.loop-code.invariant c.loop-code-test.true c.in-Join.ensures.0) c.in-Err.ensures.value c.in-Err.ensures.self_after c.in-Err.ensures.store_after in
-    ap ran_of (sym refused.0)
-
-pub returns-in-Err-clause-store_after : goal.returns-in-Err-clause-store_after
-returns-in-Err-clause-store_after c =
-    let refused = join_out c.requires (running_at _ c.loop-code.invariant c.loop-code-test.true c.in-Join.ensures.0) c.in-Err.ensures.value c.in-Err.ensures.self_after c.in-Err.ensures.store_after in
-    rw refused.0 (clears c.store_for-size.ensures c.join.new.store c.args.store.now c.clear.new.s refused.1 c.clear.ensures)
+    record {
+      value = ap ran_of (sym refused.0);
+      store_after = rw refused.0 (clears c.store_for-size.ensures c.join.new.store c.args.store.now c.clear.new.s refused.1 c.clear.ensures);
+    }
 
 pub loop-code-preserved : goal.loop-code-preserved
 loop-code-preserved c = elim c.match-from.branch [
