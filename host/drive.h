@@ -301,7 +301,7 @@ static inline uint32_t drive_plan_read_entry(const uint8_t *plan, uint64_t i) {
  * What the caller sees to:
  *   - Each pointer has that many bytes behind it. A pointer may be NULL where its length is 0. No alignment is asked for.
  *   - No buffer overlaps another, and nothing else writes to them during the call.
- *   - DRIVE_STACK_BYTES bytes of stack are left. Measured: up to 3,520 for drive_bounds, drive_set and drive_speed, and 2,640 for the
+ *   - DRIVE_STACK_BYTES bytes of stack are left. Measured: up to 3,600 for drive_bounds, drive_set and drive_speed, and 2,296 for the
  *     others; up to 3,248 more for the first call under lazy binding, where functions of the C library are looked up at first use.
  * No other input, whatever its bytes, can make a call fail, run on or touch other memory.
  *

@@ -2,12 +2,13 @@
 use mathlib.Core.Path.{◌≡◌, refl, ap, ◌∙◌}
 use mathlib.Core.Bool.{Bool, true, false, ◌||◌, true≢false}
 use mathlib.Core.List.{List}
-use Prim.Native.Nat.{ℕ, ◌≤◌, ◌<◌}
+use Prim.Native.Nat.{ℕ, ◌+◌, ◌^◌, ◌≤◌, ◌<◌}
 use native.Mathlib.Omega.{arith}
 use borrow.Author.Tests.{le-ltb, ltb-false}
 use lib.Dec.{ltb}
 use lib.ListN.{length}
 use Rattle.field.specs.Bits.{field_at}
+use Rattle.field.proofs.FieldLaws.{field_below}
 use Rattle.theory.specs.Limits.{most_held}
 use Rattle.theory.specs.Focal.{focal_at}
 use Rattle.theory.specs.declared.Focal.{Focal}
@@ -18,6 +19,11 @@ use Rattle.std.specs.Prelude.{Some, None, replicate}
 use Rattle.theory.proofs.Every.{all_alike}
 use Rattle.theory.specs.declared.Component.{Component}
 use Rattle.block.proofs.Rows.{row_ext, row_used}
+
+-- Three fields in a row, of at most 16 bits each, fit 16 bits.
+pub narrow : (s : List ℕ) (p a b c : ℕ) → a ≤ 16 → b ≤ 16 → c ≤ 16
+    → (field_at s p a < 2 ^ 16) × (field_at s (p + a) b < 2 ^ 16) × (field_at s (p + a + b) c < 2 ^ 16)
+narrow s p a b c i j k = (field_below s p a 16 i, field_below s (p + a) b 16 j, field_below s (p + a + b) c 16 k)
 
 pub neither : (a b : Bool) → (a || b) ≡ false → (a ≡ false) × (b ≡ false)
 neither true b e = absurd (true≢false e)

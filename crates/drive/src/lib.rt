@@ -13,7 +13,7 @@ ghost use Rattle.drive.specs.Speed.{speed_number, speed_list_after, speed_answer
 ghost use Rattle.drive.specs.Set.{set_number, set_list_after, set_shares_after, set_answer_after};
 
 use evaluate::Accepted;
-use theory::{MOST_DEMANDS, Refusal};
+use theory::Refusal;
 
 // The bytes that an answer takes, those of an answer with a speed, and those of the answer beside the shares of a set.
 const ANSWER_BYTES: usize = 40;
@@ -106,8 +106,8 @@ pub fn drive_set(
     ensures shares_after { shares.new ≡ set_shares_after sheet.now demands.now allowance list.old shares.old answer.old }
     ensures answer_after { answer.new ≡ set_answer_after sheet.now demands.now allowance list.old shares.old answer.old }
 {
-    let mut room = [0u32; MOST_DEMANDS];
-    let demands = wire::decode_demands(demands, &mut room);
+    let d = wire::decode_demands(demands);
+    let demands = &d.values[..d.count];
     if answer.len() < SET_ANSWER_BYTES {
         return refused(sheet);
     }

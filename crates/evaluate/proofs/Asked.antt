@@ -1,26 +1,27 @@
 -- What is asked of the list that tests and run leave in the store. Assumes nothing.
 use Prim.Native.Nat.{ℕ, ◌*◌, ◌≤◌}
-use mathlib.Core.Path.{◌≡◌, sym, ap, ◌∙◌}
+use mathlib.Core.Path.{◌≡◌, refl, sym, ap, ◌∙◌}
 use mathlib.Core.List.{List, ◌++◌}
 use native.Mathlib.Omega.{arith}
 use lib.ListN.{length, drop, length-append}
+use borrow.Author.Tests.{ltb-false}
 use Rattle.std.specs.Prelude.{Ok}
 use Rattle.theory.specs.Limits.{record_bytes}
-use Rattle.theory.specs.Sums.{for_each}
+use Rattle.theory.specs.Sums.{for_each, Every}
 use Rattle.theory.specs.Masses.{total}
 use Rattle.theory.specs.declared.Focal.{Focal}
 use Rattle.theory.specs.Structure.{Tree}
-use Rattle.theory.specs.Evaluation.{Evaluation}
+use Rattle.theory.specs.Evaluation.{Evaluation, completed, refused}
 use Rattle.theory.specs.Speed.{speed_for}
 use Rattle.theory.proofs.Every.{every_map}
 use Rattle.theory.proofs.Collect.{order_collect, belief-collect, plausibility-collect}
 use Rattle.theory.proofs.Totals.{total_positive}
-use Rattle.plan.specs.Tests.{Test, first_broken}
+use Rattle.plan.specs.Tests.{Test, first_broken, Unbroken}
 use Rattle.records.specs.Records.{records}
 use Rattle.records.proofs.RecordLaws.{length-encode}
 use Rattle.records.proofs.Store.{settled_list}
 use Rattle.queries.specs.declared.Shares.{Shares}
-use Rattle.queries.specs.Shares.{shares_of, shares_bytes, encode_shares, encode_set, Summable}
+use Rattle.queries.specs.Shares.{shares_of, shares_bytes, encode_shares, encode_set, demand_tests, Summable}
 use Rattle.queries.specs.Speed.{target_tests, Searchable}
 use Rattle.run.specs.Run.{needed}
 use Rattle.evaluate.specs.declared.AcceptedRun.{AcceptedRun}
@@ -93,6 +94,20 @@ module _ {s : List ℕ} {allowance : ℕ} {store : List ℕ} {own : List Test} {
         rw (list_is, a.ends) (λ i.
         for_each demands (λ d. encode_shares (record { belief = belief-collect d (sheet_outcomes s) i; plausibility = plausibility-collect d (sheet_outcomes s) i }))
         ++ drop (shares_bytes * length demands) shares)
+
+-- The shares' buffer of an accepted call for a set has room, and that of a refused one stays.
+module _ (s demands : List ℕ) where
+  pub shares_room : {allowance : ℕ} {store : List ℕ} (shares : List ℕ) {r : SheetRun} {after : List ℕ}
+      → AcceptedCall s allowance store (demand_tests (length demands) (length shares)) r after → shares_bytes * length demands ≤ length shares
+  shares_room shares a = go a.own_unbroken
+    where
+      go : Every Unbroken (demand_tests (length demands) (length shares)) → shares_bytes * length demands ≤ length shares
+      go (Every.more e (Every.more f n)) = ltb-false (length shares) (shares_bytes * length demands) f
+
+  pub shares_refused : (shares : List ℕ) (v : Evaluation Tree) {r : SheetRun} → r ≡ sheet_run_of v s → (r.number ≡ 0 → ⊥)
+      → shares ≡ shares_by v demands (sheet_outcomes s) shares
+  shares_refused shares (refused k) e h = refl
+  shares_refused shares (completed stack pairs) e h = absurd (h (ap (λ (y : SheetRun). y.number) e))
 
 -- A list is searched for a speed with a target of 1 to 1,000 and a total above 0.
 pub searchable : {s : List ℕ} {target allowance : ℕ} {store : List ℕ} {x : AcceptedRun} {after : List ℕ}

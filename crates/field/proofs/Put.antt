@@ -133,7 +133,7 @@ room : (s : List ℕ) (a w v : ℕ) → a + suc w ≤ 8 * length s → a + w < 8
 room s a w v h = rw length_put_at (omega arith)
 
 -- A field of one bit more in front.
-put_at_front : (s : List ℕ) (a w v : ℕ) → a + suc w ≤ 8 * length s → set_bit (put_at s (a + 1) w v) a (v / 2 ^ w % 2) ≡ put_at s a (w + 1) v
+pub put_at_front : (s : List ℕ) (a w v : ℕ) → a + suc w ≤ 8 * length s → set_bit (put_at s (a + 1) w v) a (v / 2 ^ w % 2) ≡ put_at s a (w + 1) v
 unfolding put_at
 put_at_front s a zero v h = rw (div-one, add-zero)
 put_at_front s a (suc w) v h =

@@ -20,18 +20,23 @@ use Rattle.records.specs.Store.{replaced, holding}
 
 -- ---- a record in bytes
 
+-- Low and high of the record at byte k.
+pub ends_are : (s : List ℕ) (k : ℕ) → (number_at s k 2 ≡ (head_record (drop k s)).low) × (number_at s (k + 2) 2 ≡ (head_record (drop k s)).high)
+unfolding head_record
+ends_are s k = (refl, rw drop-drop)
+
 pub weight_is : (r : List ℕ) → 12 ≤ length r → number_at r 4 4 * 4294967296 + number_at r 8 4 ≡ (head_record r).weight
 unfolding head_record
 weight_is r h = sym (number_split r 4 4 4 h)
 
 -- A key's bytes are those of low and high.
-bytes_key : (f : Focal) → f.high < speed_limit → big_endian 4 (key_of f) ≡ big_endian 2 f.low ++ big_endian 2 f.high
+bytes_key : (key : ℕ) → big_endian 4 key ≡ big_endian 2 (key / speed_limit) ++ big_endian 2 (key % speed_limit)
 unfolding big_endian
-bytes_key f h =
-    let e0 : key_of f / 16777216 % 256 ≡ f.low / 256 % 256 = omega arith in
-    let e1 : key_of f / 65536 % 256 ≡ f.low / 1 % 256 = omega arith in
-    let e2 : key_of f / 256 % 256 ≡ f.high / 256 % 256 = omega arith in
-    let e3 : key_of f / 1 % 256 ≡ f.high / 1 % 256 = omega arith in
+bytes_key key =
+    let e0 : key / 16777216 % 256 ≡ key / 65536 / 256 % 256 = omega arith in
+    let e1 : key / 65536 % 256 ≡ key / 65536 / 1 % 256 = omega arith in
+    let e2 : key / 256 % 256 ≡ key % 65536 / 256 % 256 = omega arith in
+    let e3 : key / 1 % 256 ≡ key % 65536 / 1 % 256 = omega arith in
     λ i. e0 i ∷ e1 i ∷ e2 i ∷ e3 i ∷ []
 
 pub length_bytes_of : (r : Focal) → length (bytes_of r) ≡ 12
@@ -65,17 +70,17 @@ length-records (suc n) s = ap suc (length-records n (drop 12 s))
 -- ---- a record written
 
 -- The weight is stored, and then the key before it.
-pub key_stored : (s : List ℕ) (f : Focal) (p : ℕ) → f.high < speed_limit → p + 12 ≤ length s → (t : List ℕ) → t ≡ replaced s (p + 4) 8 (big_endian 8 f.weight)
-    → replaced t p 4 (big_endian 4 (key_of f)) ≡ replaced s p 12 (bytes_of f)
+pub key_stored : (s : List ℕ) (key weight p : ℕ) → p + 12 ≤ length s → (t : List ℕ) → t ≡ replaced s (p + 4) 8 (big_endian 8 weight)
+    → replaced t p 4 (big_endian 4 key) ≡ replaced s p 12 (bytes_of (keyed key weight))
 unfolding bytes_of
-key_stored s f p hf hs t te =
-    let z : List ℕ = big_endian 8 f.weight ++ drop (p + 4 + 8) s in
+key_stored s key weight p hs t te =
+    let z : List ℕ = big_endian 8 weight ++ drop (p + 4 + 8) s in
     let l : length (take (p + 4) s) ≡ p + 4 = length-take-le (p + 4) s (omega arith) in
     let e : p + 4 + 8 ≡ p + 12 = omega arith in
     let front : take p t ≡ take p s = ap (take p) te ∙ take-append-le p (take (p + 4) s) z (omega arith) ∙ take-take p (p + 4) s (omega arith) in
-    let rest : drop (p + 4) t ≡ big_endian 8 f.weight ++ drop (p + 12) s =
-    ap (drop (p + 4)) te ∙ drop_at (take (p + 4) s) z (p + 4) l ∙ ap (λ (n : ℕ). big_endian 8 f.weight ++ drop n s) e in
-    (λ i. front i ++ (bytes_key f hf i ++ rest i)) ∙ simp append_assoc
+    let rest : drop (p + 4) t ≡ big_endian 8 weight ++ drop (p + 12) s =
+    ap (drop (p + 4)) te ∙ drop_at (take (p + 4) s) z (p + 4) l ∙ ap (λ (n : ℕ). big_endian 8 weight ++ drop n s) e in
+    (λ i. front i ++ (bytes_key key i ++ rest i)) ∙ simp append_assoc
 
 big_endian_at : (s : List ℕ) (a n : ℕ) → Bytes s → a + n ≤ length s → big_endian n (number_at s a n) ≡ take n (drop a s)
 big_endian_at s a n h k =

@@ -139,39 +139,34 @@ pub struct Listing<'a> {
     pub count: usize,
 }
 
-// Writes record i.
-fn write_record(s: &mut [u8], i: usize, f: Focal)
+// Writes record i: the key's interval with its weight.
+fn write_record(s: &mut [u8], i: usize, key: u64, weight: u64)
     requires { record_bytes * i + record_bytes ≤ length s.old }
-    ensures { s.new ≡ with_record s.old i f }
+    ensures { s.new ≡ with_record s.old i (keyed key weight) }
 {
-    numbers::write_number(s, RECORD_BYTES * i + 4, 8, f.weight);
-    numbers::write_number(s, RECORD_BYTES * i, 4, key_of(f));
+    numbers::write_number(s, RECORD_BYTES * i + 4, 8, weight);
+    numbers::write_number(s, RECORD_BYTES * i, 4, key);
 }
 
 impl<'a> Listing<'a> {
-    // Puts an interval with its weight into the list, and answers its place: an equal interval gets the weight added. Where the list would
-    // then have 257, all bytes stay as they are, and the place is an error: it is promised in both cases.
+    // Puts the key's interval with its weight into the list, and answers its place: an equal interval gets the weight added. Where the list
+    // would then have 257, all bytes stay as they are, and the place is an error: it is promised in both cases.
     #[tactic(auto, using(crate::proofs::Place::place_in))]
-    pub fn insert(&mut self, f: Focal, hint: usize) -> Result<usize, usize>
-        requires { Insertable self.old.bytes.now self.old.count f.weight }
-        ensures value { result ≡ insertion_of f (records self.old.count self.old.bytes.now) }
-        ensures bytes { self.new.bytes.now ≡ holding self.old.bytes.now (insert_or_stay f (records self.old.count self.old.bytes.now)) }
-        ensures count { self.new.count ≡ length (insert_or_stay f (records self.old.count self.old.bytes.now)) }
+    pub fn insert_by_key(&mut self, key: u64, weight: u64, hint: usize) -> Result<usize, usize>
+        requires { Insertable self.old.bytes.now self.old.count weight }
+        ensures value { result ≡ insertion_of (keyed key weight) (records self.old.count self.old.bytes.now) }
+        ensures bytes { self.new.bytes.now ≡ holding self.old.bytes.now (insert_or_stay (keyed key weight) (records self.old.count self.old.bytes.now)) }
+        ensures count { self.new.count ≡ length (insert_or_stay (keyed key weight) (records self.old.count self.old.bytes.now)) }
         ensures same_reference { self.new.bytes.ghost_name ≡ self.old.bytes.ghost_name }
     {
         // By a name of its own: of a field that is lent only the length would be known.
         let bytes = &mut *self.bytes;
         let n = self.count;
-        let key = key_of(f);
         let list = Records::first(bytes, n);
         let place = list.find(key, hint);
         if list.matches(place, key) {
             let old = focal_in(&list.records[place]);
-            let sum = Focal {
-                weight: f.weight + old.weight,
-                ..f
-            };
-            write_record(bytes, place, sum);
+            write_record(bytes, place, key, weight + old.weight);
             return Ok(place);
         }
         if n == MOST_INTERVALS {
@@ -180,9 +175,20 @@ impl<'a> Listing<'a> {
         let at = RECORD_BYTES * place;
         // Within the bytes from `at` on, so that the distance is a constant: the compiler makes one `memmove` of it then.
         bytes[at..].copy_within(..RECORD_BYTES * n - at, RECORD_BYTES);
-        write_record(bytes, place, f);
+        write_record(bytes, place, key, weight);
         self.count = n + 1;
         Ok(place)
+    }
+
+    // The same of an interval, whose ends have 16 bits each.
+    pub fn insert(&mut self, f: Focal, hint: usize) -> Result<usize, usize>
+        requires { Insertable self.old.bytes.now self.old.count f.weight }
+        ensures value { result ≡ insertion_of f (records self.old.count self.old.bytes.now) }
+        ensures bytes { self.new.bytes.now ≡ holding self.old.bytes.now (insert_or_stay f (records self.old.count self.old.bytes.now)) }
+        ensures count { self.new.count ≡ length (insert_or_stay f (records self.old.count self.old.bytes.now)) }
+        ensures same_reference { self.new.bytes.ghost_name ≡ self.old.bytes.ghost_name }
+    {
+        self.insert_by_key(key_of(f), f.weight, hint)
     }
 }
 

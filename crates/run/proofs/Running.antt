@@ -86,10 +86,11 @@ module _ {p : Plan} {store₀ : List ℕ} (ready : Runnable p store₀) {allowan
       }
 
   -- At the end the one list of the stack is what the walk leaves.
-  pub finished : {store : List ℕ} {st : Stack} → Running p allowance store₀ [] store st → walked p allowance ≡ completed (list_at store st 0 ∷ []) st.pairs
+  pub finished : {store : List ℕ} {st : Stack} → Running p allowance store₀ [] store st
+      → (st.depth ≡ 1) × (walked p allowance ≡ completed (list_at store st 0 ∷ []) st.pairs)
   finished {store = store} {st = st} running =
       let one : st.depth ≡ 1 = omega (arith, running.balance) in
-      sym (ap (λ d. completed (lists_below store st d) st.pairs) (sym one) ∙ running.walks)
+      (one, sym (ap (λ d. completed (lists_below store st d) st.pairs) (sym one) ∙ running.walks))
 
   -- Behind the lists of up to six components there is room for one of 256 records.
   room_left : {rest : List Entry} {store : List ℕ} {st : Stack} → Running p allowance store₀ rest store st → (st.depth ≤ most_components) × (st.free + list_bytes ≤ needed p)

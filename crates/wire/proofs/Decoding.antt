@@ -1,20 +1,22 @@
 -- Arrays that are made and rows that are filled place by place, and how many demands so many bytes are. Assumes nothing.
 use Prim.Native.Nat.{ℕ, zero, suc, ◌+◌, ◌*◌, ◌/◌, ◌%◌, ◌≤◌, ◌<◌}
 use mathlib.Core.Path.{◌≡◌, refl, sym, ap, ◌∙◌}
-use mathlib.Core.List.{List, ◌∷◌, map}
+use mathlib.Core.List.{List, ◌∷◌, ◌++◌, map}
 use native.Mathlib.Nat.{zero-add}
 use native.Mathlib.Numerals.{add-one}
 use native.Mathlib.Decide.{dec_lt, ℕ_discrete}
 use native.Mathlib.Omega.{arith}
-use lib.ListN.{length, take, drop, set}
+use lib.ListN.{length, take, drop, set, replicate, take-append-drop}
 use lib.Seq.{drop-cons}
 use denote.Param.Members.{Mut, Called}
 use borrow.Author.Tests.{eq-eqb, ne_eqb, le-leb, lt-leb}
 use Rattle.std.specs.Array.{IsFromFnResultFrom, IsFromFnResult}
-use Rattle.std.proofs.lemmas.List.{take_more_set, drop_all}
+use Rattle.std.proofs.lemmas.List.{take_more_set, drop_all, drop-set-lt}
 use Rattle.theory.specs.Limits.{most_demands}
 use Rattle.theory.specs.Sums.{count_from}
 use Rattle.theory.proofs.Sums.{map_count}
+use Rattle.block.specs.Rows.{row}
+use Rattle.block.proofs.Rows.{row_front}
 use Rattle.wire.specs.Demands.{demand_bytes, demand_count, Lengths}
 
 -- ---- an array made by calls, one for each place
@@ -33,9 +35,19 @@ module _ {F B : Type 0} (g : Mut F (ℕ × Unit {0}) B) (f : F) (h : ℕ → B) 
 -- ---- a row that is filled place by place
 
 -- One place more, with what f gives there.
-pub filled_next : (f : ℕ → ℕ) (xs : List ℕ) (i x : ℕ) → i < length xs → take i xs ≡ map f (count_from 0 i) → x ≡ f i
+pub filled_next : {A : Type 0} (f : ℕ → A) (xs : List A) (i : ℕ) (x : A) → i < length xs → take i xs ≡ map f (count_from 0 i) → x ≡ f i
     → take (i + 1) (set xs i x) ≡ map f (count_from 0 (i + 1))
 filled_next f xs i x h e d = rw (take_more_set xs i x h, e, d, add-one) (sym (map_count f 0 i i (zero-add i)))
+
+-- The places behind them stay.
+row_rest : (f : ℕ → ℕ) (m n k : ℕ) → k ≤ n → drop n (row 0 m f k) ≡ drop n (replicate m 0)
+unfolding row
+row_rest f m n zero h = refl
+row_rest f m n (suc k) h = drop-set-lt n (row 0 m f k) k (f k) (omega arith) ∙ row_rest f m n k (omega arith)
+
+pub filled_row : (f : ℕ → ℕ) (m k : ℕ) → k ≤ m → map f (count_from 0 k) ++ drop k (replicate m 0) ≡ row 0 m f k
+filled_row f m k h =
+    (λ i. sym (row_front 0 m f k h) i ++ sym (row_rest f m k k (omega arith)) i) ∙ take-append-drop k (row 0 m f k)
 
 -- ---- how many demands so many bytes are
 

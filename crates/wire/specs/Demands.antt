@@ -3,6 +3,8 @@ use Rattle.std.specs.Prelude.{ℕ, ◌*◌, ◌/◌, ◌%◌, ◌≤◌, ◌≡�
 use Rattle.theory.specs.Limits.{most_demands}
 use Rattle.theory.specs.Sums.{count_from}
 use Rattle.numbers.specs.Numbers.{number_at}
+use Rattle.block.specs.Rows.{row}
+use Rattle.wire.specs.declared.Demands.{Demands}
 
 -- The bytes of a demand.
 abbrev pub demand_bytes : ℕ
@@ -18,6 +20,10 @@ demand_at s i = number_at s (demand_bytes * i) demand_bytes
 
 abbrev pub demands_in : List ℕ → List ℕ
 demands_in s = map (demand_at s) (count_from 0 (demand_count (length s)))
+
+-- All of them as a value: sixteen places, of which the first `count` are used and the others 0.
+unfoldable pub decode_demands : List ℕ → Demands
+decode_demands s = record { count = demand_count (length s); values = row 0 most_demands (demand_at s) (demand_count (length s)) }
 
 -- What that comes to: 4 n bytes, n up to 16, are n demands, and any other length is none (proved: `Decoding.lengths`).
 pub record Lengths : Type 0 where

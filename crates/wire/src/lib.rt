@@ -2,11 +2,11 @@
 // Where a number is cast there is no `From`, a `TryFrom` would never fail, and the check proves that nothing is lost.
 #![tactic(auto)]
 
-ghost use Rattle.std.specs.Prelude.{◌≡◌, ◌++◌, ◌+◌, ◌*◌, ◌≤◌, length, drop};
-ghost use Rattle.theory.specs.Limits.{most_entries};
+ghost use Rattle.std.specs.Prelude.{◌≡◌, ◌++◌, ◌+◌, ◌*◌, ◌≤◌, length, take, drop};
+ghost use Rattle.theory.specs.Limits.{most_entries, most_demands};
 ghost use Rattle.wire.specs.Wire.{number_bytes, component_size, plan_bytes, number_in, numbers_in, decode_component, components_in, decode_plan};
 ghost use Rattle.wire.specs.Wire.{with_numbers, component_numbers_of, encode_plan};
-ghost use Rattle.wire.specs.Demands.{demand_count, demands_in};
+ghost use Rattle.wire.specs.Demands.{demand_count, demands_in, decode_demands};
 
 use plan::Plan;
 use std::array;
@@ -52,12 +52,18 @@ fn decode_component(s: &[u8], i: usize) -> Component
     }
 }
 
-// The N components whose numbers start at number i.
+// The N components whose numbers start at number i. Not by `array::from_fn`: tried, the compiled writer keeps the row in four more places of its
+// stack.
+#[tactic(auto, using(crate::proofs::Decoding::filled_next))]
 fn components_in<const N: usize>(s: &[u8], i: usize) -> [Component; N]
     requires { number_bytes * (i + component_size * N) ≤ length s.now }
     ensures { result ≡ components_in s.now i N }
 {
-    array::from_fn(|j| decode_component(s, i + COMPONENT_SIZE * j))
+    let mut components = [Component::default(); N];
+    for (j, component) in components.iter_mut().enumerate() {
+        *component = decode_component(s, i + COMPONENT_SIZE * j);
+    }
+    components
 }
 
 // The plan that the bytes spell. No `From`: it asks for enough bytes.
@@ -118,14 +124,33 @@ fn demand_count(bytes: usize) -> usize
     }
 }
 
-// The demands that the bytes spell, in a row that is lent for them.
+// The demands of a set: the first `count` places are used, the others are 0.
+#[derive(Clone, Copy)]
+pub struct Demands {
+    pub values: [u32; MOST_DEMANDS],
+    pub count: usize,
+}
+
+// Puts the demands that the bytes spell into the first places of a row, and answers how many they are; the other places stay.
 #[tactic(auto, using(crate::proofs::Decoding::filled_next))]
-pub fn decode_demands<'a>(s: &[u8], room: &'a mut [u32; MOST_DEMANDS]) -> &'a [u32]
-    ensures { result.now ≡ demands_in s.now }
+fn put_demands(s: &[u8], row: &mut [u32; MOST_DEMANDS]) -> usize
+    ensures value { result ≡ demand_count (length s.now) }
+    ensures row_after { row.new ≡ demands_in s.now ++ drop (demand_count (length s.now)) row.old }
 {
-    let demands = &mut room[..demand_count(s.len())];
-    for (i, demand) in demands.iter_mut().enumerate() {
+    let count = demand_count(s.len());
+    for (i, demand) in row[..count].iter_mut().enumerate() {
         *demand = numbers::read_number(s, DEMAND_BYTES * i, DEMAND_BYTES) as u32;
     }
-    demands
+    count
+}
+
+// The demands that the bytes spell.
+pub fn decode_demands(s: &[u8]) -> Demands
+    ensures value { result ≡ decode_demands s.now }
+    ensures few { result.count ≤ most_demands }
+    ensures used { take result.count result.values ≡ demands_in s.now }
+{
+    let mut values = [0; MOST_DEMANDS];
+    let count = put_demands(s, &mut values);
+    Demands { values, count }
 }

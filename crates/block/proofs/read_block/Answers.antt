@@ -1,14 +1,13 @@
 -- `block::read_block` meets its contract. Assumes nothing.
-use Rattle.std.proofs.Common.{◌≡◌, ◌∙◌, ◌<◌, ◌≤◌, ◌+◌, sym, ℕ, List, arith, Some, None, Option, Bool, ◌||◌, lit≤}
+use Rattle.std.proofs.Common.{◌≡◌, ◌∙◌, ◌<◌, ◌≤◌, sym, ℕ, List, arith, Some, None, Option, Bool, ◌||◌, lit≤}
 use Rattle.std.proofs.Math.Dec.{ltb}
 use Rattle.std.proofs.lemmas.Bool.Decides.{nat_tests}
 use Rattle.field.specs.Bits.{field_at}
-use Rattle.field.proofs.FieldLaws.{field_below}
 use Rattle.theory.specs.Limits.{most_held}
 use Rattle.theory.specs.declared.Component.{Component}
 use Rattle.block.specs.Block.{count_bits, zero_bits, total_bits, place_of, size_of, padding_of, count_in, total_in, bad_zero_bits, component_of, block_in}
 use Rattle.block.specs.declared.Block.{Block}
-use Rattle.block.proofs.Laws.{Uncut, is_uncut, is_cut, block_uncut, block_cut}
+use Rattle.block.proofs.Laws.{narrow, Uncut, is_uncut, is_cut, block_uncut, block_cut}
 use Rattle.block.proofs.read_block.Goals as goal
 use Rattle.block.proofs.read_block.Goals.{After-take-total, then-zero-gt0, else-zero-gt0}
 
@@ -53,7 +52,7 @@ pub returns-then-part-lt-BLOCK_HEAD_BYTES : goal.returns-then-part-lt-BLOCK_HEAD
 returns-then-part-lt-BLOCK_HEAD_BYTES c = none c.args.part.now (λ u. omega arith)
 
 pub overflow_cast-total : goal.overflow_cast-total
-overflow_cast-total c = record { fits = rw (total_is c) (field_below c.args.part.now (count_bits + zero_bits) total_bits 16 (lit≤ tt)) }
+overflow_cast-total c = record { fits = rw (total_is c) (narrow c.args.part.now 0 count_bits zero_bits total_bits (lit≤ tt) (lit≤ tt) (lit≤ tt)).2 }
 
 pub returns-then-not-contains : goal.returns-then-not-contains
 returns-then-not-contains c =

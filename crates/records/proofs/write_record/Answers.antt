@@ -8,4 +8,4 @@ use Rattle.records.proofs.write_record.Goals as goal
 pub returns : goal.returns
 returns c =
     let a = c.args in
-    (rw c.key_of.ensures at c.write_number-2.ensures) ∙ key_stored a.s.now a.f (12 * a.i) (omega arith) (omega arith) c.write_number.new.s c.write_number.ensures
+    c.write_number-2.ensures ∙ key_stored a.s.now a.key a.weight (12 * a.i) (omega arith) c.write_number.new.s c.write_number.ensures

@@ -90,12 +90,13 @@ settle-requires c =
 pub returns-clause-value : goal.returns-clause-value
 returns-clause-value c =
     let left = span_at c.loop-code.stack 0 in
-    rw (finished c.requires (ended _ c.loop-code.invariant c.loop-code-test.false), length-records left.count (drop left.start c.loop-code.store))
+    rw ((finished c.requires (ended _ c.loop-code.invariant c.loop-code-test.false)).1, length-records left.count (drop left.start c.loop-code.store))
 
 pub returns-clause-store_after : goal.returns-clause-store_after
 returns-clause-store_after c =
     let end = ended _ c.loop-code.invariant c.loop-code-test.false in
-    let front : (span_at c.loop-code.stack 0).start ≡ 0 = omega (arith, end.stored.stand 0 (omega (arith, end.balance))) in
-    rw (finished c.requires end, front)
+    let over = finished c.requires end in
+    let front : (span_at c.loop-code.stack 0).start ≡ 0 = omega (arith, end.stored.stand 0 (omega (arith, over.0))) in
+    rw (over.1, front)
     (fills c.store_for-size.ensures c.loop-code.store c.args.store.now c.settle.new.store end.stored.later (records (span_at c.loop-code.stack 0).count c.loop-code.store)
     c.settle.ensures)
