@@ -4,7 +4,7 @@
 
 ghost use Rattle.std.specs.Prelude.{◌≡◌, ◌++◌, ◌+◌, ◌*◌, ◌≤◌, length, take, drop};
 ghost use Rattle.theory.specs.Limits.{most_entries, most_demands};
-ghost use Rattle.wire.specs.Wire.{number_bytes, component_size, plan_bytes, number_in, numbers_in, decode_component, components_in, decode_plan};
+ghost use Rattle.wire.specs.Wire.{number_bytes, component_size, plan_bytes, number_in, numbers_in, decode_component, decode_plan};
 ghost use Rattle.wire.specs.Wire.{with_numbers, component_numbers_of, encode_plan};
 ghost use Rattle.wire.specs.Demands.{demand_count, demands_in, decode_demands};
 
@@ -52,27 +52,19 @@ fn decode_component(s: &[u8], i: usize) -> Component
     }
 }
 
-// The N components whose numbers start at number i. Not by `array::from_fn`: tried, the compiled writer keeps the row in four more places of its
-// stack.
+// The plan that the bytes spell. No `From`: it asks for enough bytes. The components not by `array::from_fn`: tried, the compiled writer makes
+// four more rows of them, and clears each.
 #[tactic(auto, using(crate::proofs::Decoding::filled_next))]
-fn components_in<const N: usize>(s: &[u8], i: usize) -> [Component; N]
-    requires { number_bytes * (i + component_size * N) ≤ length s.now }
-    ensures { result ≡ components_in s.now i N }
-{
-    let mut components = [Component::default(); N];
-    for (j, component) in components.iter_mut().enumerate() {
-        *component = decode_component(s, i + COMPONENT_SIZE * j);
-    }
-    components
-}
-
-// The plan that the bytes spell. No `From`: it asks for enough bytes.
 pub fn decode_plan(s: &[u8]) -> Plan
     requires { plan_bytes ≤ length s.now }
     ensures { result ≡ decode_plan s.now }
 {
+    let mut components = [Component::default(); MOST_COMPONENTS];
+    for (i, component) in components.iter_mut().enumerate() {
+        *component = decode_component(s, 1 + COMPONENT_SIZE * i);
+    }
     Plan {
-        components: components_in(s, 1),
+        components,
         count: usize::from(number_in(s, 0)),
         entries: numbers_in(s, ENTRIES_START),
     }
@@ -124,7 +116,7 @@ fn demand_count(bytes: usize) -> usize
     }
 }
 
-// The demands of a set: the first `count` places are used, the others are 0.
+// The demands of a set: the first `count` places are used; `decode_demands` makes the others 0.
 #[derive(Clone, Copy)]
 pub struct Demands {
     pub values: [u32; MOST_DEMANDS],
